@@ -344,12 +344,45 @@ row("a rule of six variables, 30 individuals, all in n", 30)(
     lambda size: six(size, [f"u{u}->u{w}" for u in range(size) for w in range(size)], True))
 
 
+def in_line(count, pairs, variables):
+    """A rule whose variables follow each other in n, of which the last two shouldn't."""
+    names = "abcdefghijklmnopqrstuvwxyz"[:variables]
+    steps = [f"n({v}, {w})" for v, w in zip(names, names[1:])]
+    preds, _ = eight(count, preds=6)
+    program = preds + "%p n(v, w)\n%r " + " & ".join([*steps, "!" + steps[-1]]) + " ==> 0\n" + TAIL
+    entries = "n = {" + ", ".join(pairs) + "} " + names_apart(count, 6)
+    return analyze(program, "%n = {" + individuals(count) + "} %p = { " + entries + "}")
+
+
+row("a rule of nine variables in a line, 60 individuals, all in n", 60)(
+    lambda size: in_line(size, [f"u{u}->u{w}" for u in range(size) for w in range(size)], 9))
+row("a rule of nine variables in a line, 60 individuals, the first 30 unknown", 60)(
+    lambda size: in_line(size, [f"u{u}->u{w}" + ":1/2" * (u < 30) for u in range(size) for w in range(size)], 9))
+
+
 @row("four quantifiers, 40 individuals", 40)
 def _(count):
     preds, initial = eight(count, "x = {u0} ", 6)
     pre = "A(a) E(b) A(c) E(d) n(a, b) | n(b, c) | n(c, d) | !x(d)"
     see = "%%\n%action See() { %p " + pre + " }\n%%\nL0 See() L1\n"
     return analyze("%p x(v)\n%p n(v, w)\n" + preds + see, initial)
+
+
+def tied(count, length, pairs):
+    """A precondition of so many quantifiers, each variable tied to the one before it."""
+    names = [f"v{k}" for k in range(length)]
+    bound = "".join(f"{'EA'[k % 2]}({name}) " for k, name in enumerate(names))
+    pre = bound + " & ".join(f"n({v}, {w})" for v, w in zip(names, names[1:]))
+    preds = "%p n(v, w)\n" + "".join(f"%p a{k}(v)\n" for k in range(8))
+    entries = "n = {" + ", ".join(pairs) + "} " + names_apart(count, 8)
+    return analyze(preds + "%%\n%action See() { %p " + pre + " }\n%%\nL0 See() L1\n",
+                   "%n = {" + individuals(count) + "} %p = { " + entries + "}")
+
+
+row("a run of 9 quantifiers over a chain of atoms, 40 individuals in a circle", 40)(
+    lambda size: tied(size, 9, [f"u{u}->u{(u + 1) % size}" for u in range(size)]))
+row("a run of 20 quantifiers over a chain of atoms, 200 individuals, nothing known", 200)(
+    lambda size: tied(size, 20, [f"u{u}->u{w}:1/2" for u in range(size) for w in range(size)]))
 
 
 row("trace: 4 MiB of steps of a heap without individuals", MIB4)(

@@ -1,12 +1,14 @@
 -- Flags of members, and the join of a row's values at the members, which is that of the least and the greatest.
-use Rattle.std.proofs.Common.{ℕ, ◌≡◌, ◌≢◌, ◌⊎◌, ◌<◌, ◌≤◌, zero, suc, inl, inr, List, [], ◌∷◌, ◌++◌, get_or}
+use Rattle.std.proofs.Common.{ℕ, ◌≡◌, ◌≢◌, ◌⊎◌, ◌<◌, ◌≤◌, zero, suc, inl, inr, Option, None, Some, List, []}
+use Rattle.std.proofs.Common.{◌∷◌, ◌++◌, get_or}
 use Rattle.std.proofs.Common.{set, length, map, take, replicate, refl, sym, ap, subst, ◌∙◌, ⊎_elim, arith}
-use Rattle.std.specs.Prelude.{All, Contains}
+use Rattle.std.specs.Prelude.{All, Contains, IfSome}
 use Rattle.std.proofs.lemmas.Bool.{cases_eq, cases_lt}
 use Rattle.std.proofs.lemmas.List.{length-set, get_or-set_same, get_or-set_other, length-replicate}
 use Rattle.std.proofs.lemmas.List.{get_or-replicate, get_or_past, get_or-take, length-take-le, length-map}
 use Rattle.std.proofs.lemmas.List.{get_or-map}
-use Rattle.std.proofs.lemmas.List.Elements.{All-contains, Contains-get_or, Contains-append_left}
+use Rattle.std.proofs.lemmas.List.Elements.{All-contains, All-nil, All-push, Contains-get_or}
+use Rattle.std.proofs.lemmas.List.Elements.{Contains-append_left}
 use Rattle.std.proofs.lemmas.List.Elements.{Contains-push, Contains-push_cases}
 use Rattle.tv_kleene.specs.declared.K3.{K3}
 use Rattle.tv_kleene.specs.declared.K3.TheVariants.{No, Half, Yes}
@@ -15,7 +17,7 @@ use Rattle.tv_kleene.proofs.Lattice.{smaller-assoc, smaller-yes, join_least, lar
 use Rattle.tv_row.specs.Bits.{greatest_in, least_in, paired}
 use Rattle.tv_row.proofs.WordOps.{length-paired, get_or-paired}
 use Rattle.tv_blur.specs.Merged.{IsJoin}
-use Rattle.tv_blur.specs.Classes.{IsAmongMembers, IsMask}
+use Rattle.tv_blur.specs.Classes.{IsAmongMembers, IsMask, MayHaveMask}
 
 -- ---- flags
 
@@ -58,6 +60,20 @@ mask_more members mask u h lt = record {
 
 pub mask_one : (u : ℕ) → u < 256 → IsMask (u ∷ []) (set (replicate 256 No) u Yes)
 mask_one u lt = mask_more [] (replicate 256 No) u mask_none lt
+
+-- ---- classes with and without a mask
+
+pub may_one : (u : ℕ) → u < 256 → MayHaveMask (u ∷ []) None
+may_one u lt = record { small = All-push (λ x. x < 256) [] u (All-nil (λ x. x < 256)) lt; mask_of = tt }
+
+pub may_more : (members : List ℕ) (mask new : Option (List K3)) (u : ℕ) → MayHaveMask members mask → u < 256
+    → IfSome new (IsMask (members ++ u ∷ [])) → MayHaveMask (members ++ u ∷ []) new
+may_more members mask new u h lt is = record { small = All-push (λ x. x < 256) members u h.small lt; mask_of = is }
+
+pub may_flag : (members : List ℕ) (mask : List K3) (u : ℕ) → MayHaveMask members (Some mask) → u < 256
+    → MayHaveMask (members ++ u ∷ []) (Some (set mask u Yes))
+may_flag members mask u h lt =
+    may_more members (Some mask) (Some (set mask u Yes)) u h lt (mask_more members mask u h.mask_of lt)
 
 -- ---- the greatest and the least value
 

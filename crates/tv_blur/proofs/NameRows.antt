@@ -1,5 +1,6 @@
--- Names in rows: columns of values, and names that are compared in two parts.
-use Rattle.std.proofs.Common.{ℕ, ◌≡◌, ◌≢◌, ◌⊎◌, ◌<◌, ◌≤◌, ◌+◌, min, inl, inr, List, [], ◌∷◌, ◌++◌, get_or}
+-- Names in words: columns of values, and names that are compared in two parts.
+use Rattle.std.proofs.Common.{ℕ, ◌≡◌, ◌≢◌, ◌⊎◌, ◌<◌, ◌≤◌, ◌+◌, ◌-◌, min, inl, inr, List, [], ◌∷◌, ◌++◌}
+use Rattle.std.proofs.Common.{get_or}
 use Rattle.std.proofs.Common.{set, length, map, take, drop, replicate, Less, Equal, Greater, refl, sym, ap}
 use Rattle.std.proofs.Common.{subst, ◌∙◌, ⊎_elim, arith}
 use Rattle.std.specs.declared.cmp.Ordering.{Ordering}
@@ -8,7 +9,8 @@ use Rattle.std.specs.List.{range_with_len}
 use Rattle.std.proofs.lemmas.Bool.{cases_eq, cases_lt}
 use Rattle.std.proofs.lemmas.List.{length-set, get_or-set_same, get_or-set_other, length-replicate}
 use Rattle.std.proofs.lemmas.List.{get_or-replicate, get_or_past, length-map, get_or-map, ext_get_or}
-use Rattle.std.proofs.lemmas.List.{map-append, take-append-drop}
+use Rattle.std.proofs.lemmas.List.{map-append, take-append-drop, length-append, get_or_append_left}
+use Rattle.std.proofs.lemmas.List.{get_or-append_right}
 use Rattle.std.proofs.lemmas.List.FromFn.{length-map-range_with_len, get_or-map-range_with_len}
 use Rattle.tv_lemmas.proofs.Orderings.{then_decided}
 use Rattle.tv_kleene.specs.declared.K3.{K3}
@@ -16,12 +18,14 @@ use Rattle.tv_kleene.specs.declared.K3.TheVariants.{No}
 use Rattle.tv_embedding_laws.specs.LogicalStructure.{LogicalStructure}
 use Rattle.tv_row.specs.Bits.{value_cmp}
 use Rattle.tv_row.specs.Places.{entry_in}
+use Rattle.tv_row.proofs.Compare.{rows_tie}
 use Rattle.tv_struct.specs.StructureForm.{StructureForm, structure_of, value_at}
 use Rattle.tv_struct.specs.StructureRows.{unary_row}
 use Rattle.tv_struct.proofs.Library.{get_or-unary_row}
 use Rattle.tv_blur.specs.Names.{canonical_name, name_cmp}
 use Rattle.tv_blur.specs.declared.names.CanonicalNames.{CanonicalNames}
-use Rattle.tv_blur.specs.Naming.{HasColumn, HoldsNames, canonical_name_in, named_by, named_in, rest_in}
+use Rattle.tv_blur.specs.Naming.{HasColumn, HoldsNames, canonical_name_in, name_word, named_by, named_in}
+use Rattle.tv_blur.specs.Naming.{rest_in}
 
 -- ---- one column, value by value
 
@@ -109,69 +113,90 @@ put_all column values old n new h all = record {
 
 -- ---- column after column
 
--- the rows have the values of the first n predicates, and No behind them
+-- the words have the values of the first n predicates, and No behind them
 pub record HasColumns (preds : List ℕ) (s : StructureForm) (n : ℕ) (rows : List (List K3)) : Type 0 where
+  pub within : n ≤ length preds
   pub count : length rows ≡ s.size
-  pub long : (u : ℕ) → u < s.size → length (get_or rows u []) ≡ length preds
+  pub long : (u : ℕ) → u < s.size → length (get_or rows u []) ≡ 64
   pub values : (u c : ℕ) → u < s.size → c < n → entry_in rows u c ≡ value_at s (get_or preds c 0) (u ∷ [])
   pub blank : (u c : ℕ) → n ≤ c → entry_in rows u c ≡ No
 
+none : (n c : ℕ) → get_or (replicate n No) c No ≡ No
+none n c =
+    ⊎_elim (λ lt. get_or-replicate n c No No lt)
+    (λ past. get_or_past (replicate n No) c No (rw (length-replicate n No) past)) (cases_lt c n)
+
 pub columns_none : (preds : List ℕ) (s : StructureForm) (rows : List (List K3))
-    → rows ≡ replicate s.size (replicate (length preds) No) → HasColumns preds s 0 rows
+    → rows ≡ replicate s.size (replicate 64 No) → HasColumns preds s 0 rows
 columns_none preds s rows is = record {
-  count = ap length is ∙ length-replicate s.size (replicate (length preds) No);
-  long = λ u lt. ap length (row u lt) ∙ length-replicate (length preds) No;
+  within = omega arith;
+  count = ap length is ∙ length-replicate s.size (replicate 64 No);
+  long = λ u lt. ap length (row u lt) ∙ length-replicate 64 No;
   values = λ u c lt less. absurd (omega arith);
   blank = λ u c le.
-      ⊎_elim (λ lt. ap (λ xs. get_or xs c No) (row u lt) ∙ none c)
+      ⊎_elim (λ lt. ap (λ xs. get_or xs c No) (row u lt) ∙ none 64 c)
       (λ past. ap (λ xs. get_or xs c No) (ap (λ xs. get_or xs u []) is
-      ∙ get_or_past (replicate s.size (replicate (length preds) No)) u []
-      (rw (length-replicate s.size (replicate (length preds) No)) past)))
+      ∙ get_or_past (replicate s.size (replicate 64 No)) u []
+      (rw (length-replicate s.size (replicate 64 No)) past)))
       (cases_lt u s.size);
 }
   where
-    row : (u : ℕ) → u < s.size → get_or rows u [] ≡ replicate (length preds) No
-    row u lt = ap (λ xs. get_or xs u []) is ∙ get_or-replicate s.size u (replicate (length preds) No) [] lt
-
-    none : (c : ℕ) → get_or (replicate (length preds) No) c No ≡ No
-    none c =
-        ⊎_elim (λ lt. get_or-replicate (length preds) c No No lt)
-        (λ past. get_or_past (replicate (length preds) No) c No (rw (length-replicate (length preds) No) past))
-        (cases_lt c (length preds))
+    row : (u : ℕ) → u < s.size → get_or rows u [] ≡ replicate 64 No
+    row u lt = ap (λ xs. get_or xs u []) is ∙ get_or-replicate s.size u (replicate 64 No) [] lt
 
 pub columns_more : (preds : List ℕ) (s : StructureForm) (n : ℕ) (rows new : List (List K3)) (values : List K3)
-    → HasColumns preds s n rows → values ≡ unary_row s (get_or preds n 0) → HasColumn n values rows new
-    → HasColumns preds s (n + 1) new
-columns_more preds s n rows new values h are put = record {
+    → HasColumns preds s n rows → n < length preds → values ≡ unary_row s (get_or preds n 0)
+    → HasColumn n values rows new → HasColumns preds s (n + 1) new
+columns_more preds s n rows new values h lt are put = record {
+  within = omega (arith, lt);
   count = put.count ∙ h.count;
-  long = λ u lt. put.long u ∙ h.long u lt;
-  values = λ u c lt less. at u c lt less (cases_eq c n);
+  long = λ u below. put.long u ∙ h.long u below;
+  values = λ u c below less. at u c below less (cases_eq c n);
   blank = λ u c past. put.others u c (λ e. omega (arith, e, past)) ∙ h.blank u c (omega (arith, past));
 }
   where
     at : (u c : ℕ) → u < s.size → c < n + 1 → (c ≡ n) ⊎ (c ≢ n)
         → entry_in new u c ≡ value_at s (get_or preds c 0) (u ∷ [])
-    at u c lt less (inl same) =
+    at u c below less (inl same) =
         subst (λ x. entry_in new u x ≡ value_at s (get_or preds x 0) (u ∷ [])) (sym same)
-        (put.put u (omega (arith, h.count, lt)) ∙ ap (λ xs. get_or xs u No) are
-        ∙ get_or-unary_row s (get_or preds n 0) u lt)
-    at u c lt less (inr differ) = put.others u c differ ∙ h.values u c lt (omega (arith, less, differ))
+        (put.put u (omega (arith, h.count, below)) ∙ ap (λ xs. get_or xs u No) are
+        ∙ get_or-unary_row s (get_or preds n 0) u below)
+    at u c below less (inr differ) = put.others u c differ ∙ h.values u c below (omega (arith, less, differ))
 
 pub columns_all : (preds : List ℕ) (s : StructureForm) (n : ℕ) (rows : List (List K3)) → HasColumns preds s n rows
-    → length preds ≤ n → rows ≡ map (canonical_name preds (structure_of s)) (range_with_len 0 s.size)
-columns_all preds s n rows h all =
-    ext_get_or [] rows (map name (range_with_len 0 s.size)) (h.count ∙ sym (length-map-range_with_len name 0 s.size))
+    → length preds ≤ 64 → length preds ≤ n
+    → rows ≡ map (name_word preds (structure_of s)) (range_with_len 0 s.size)
+columns_all preds s n rows h few all =
+    ext_get_or [] rows (map word (range_with_len 0 s.size)) (h.count ∙ sym (length-map-range_with_len word 0 s.size))
     (λ u l.
     let lt : u < s.size = omega (arith, h.count, l)
-    in let value : ℕ → K3 = λ p. value_at s p (u ∷ [])
-    in ext_get_or No (get_or rows u []) (name u) (h.long u lt ∙ sym (length-map preds value))
-    (λ c m.
-    let within : c < length preds = omega (arith, h.long u lt, m)
-    in h.values u c lt (omega (arith, within, all)) ∙ sym (get_or-map value preds c 0 No within))
-    ∙ sym (get_or-map-range_with_len name 0 s.size u u [] lt (omega arith)))
+    in ext_get_or No (get_or rows u []) (word u) (h.long u lt ∙ sym (long u)) (λ c m. at u c lt (cases_lt c (length preds)))
+    ∙ sym (get_or-map-range_with_len word 0 s.size u u [] lt (omega arith)))
   where
+    word : ℕ → List K3
+    word = name_word preds (structure_of s)
+
+    value : ℕ → ℕ → K3
+    value u p = value_at s p (u ∷ [])
+
     name : ℕ → List K3
-    name = canonical_name preds (structure_of s)
+    name u = map (value u) preds
+
+    behind : List K3
+    behind = replicate (64 - length preds) No
+
+    long : (u : ℕ) → length (word u) ≡ 64
+    long u =
+        omega (arith, few, length-append (name u) behind, length-map preds (value u), length-replicate (64 - length preds) No)
+
+    at : (u c : ℕ) → u < s.size → (c < length preds) ⊎ (length preds ≤ c) → entry_in rows u c ≡ get_or (word u) c No
+    at u c lt (inl within) =
+        h.values u c lt (omega (arith, within, all)) ∙ sym (get_or-map (value u) preds c 0 No within)
+        ∙ sym (get_or_append_left (name u) behind No c (rw (length-map preds (value u)) within))
+    at u c lt (inr past) =
+        h.blank u c (omega (arith, h.within, past))
+        ∙ sym (get_or-append_right (name u) behind (length preds) c No (length-map preds (value u)) past
+        ∙ none (64 - length preds) (c - length preds))
 
 -- ---- names in two parts
 
@@ -203,54 +228,67 @@ cmp_parts n preds s u w =
     ∙ cmp_append (canonical_name (take n preds) s u) (canonical_name (take n preds) s w) (canonical_name (drop n preds) s u) (canonical_name (drop n preds) s w)
     (length-map (take n preds) (λ p. s.value p (u ∷ [])) ∙ sym (length-map (take n preds) (λ p. s.value p (w ∷ []))))
 
--- what a row holds
-pub row_is : (names : CanonicalNames) (u : ℕ) (row : List K3) → HoldsNames names → u < (named_in names).size
-    → row ≡ get_or names.rows.items u row
-    → row ≡ canonical_name (take (min (length (named_by names)) 256) (named_by names)) (structure_of (named_in names)) u
-row_is names u row h lt is =
-    is ∙ ap (λ xs. get_or xs u row) h.rows
-    ∙ get_or-map-range_with_len (canonical_name (take (min (length (named_by names)) 256) (named_by names)) (structure_of (named_in names)))
-    0 (named_in names).size u u row lt (omega arith)
+-- words compare as the names in them
+then_tied : (o : Ordering) → ordering_then o Equal ≡ o
+then_tied Less = refl
+then_tied Equal = refl
+then_tied Greater = refl
 
-pub row_long : (names : CanonicalNames) (u : ℕ) (row : List K3) → HoldsNames names → u < (named_in names).size
-    → row ≡ get_or names.rows.items u row → length row ≡ length (take (min (length (named_by names)) 256) (named_by names))
-row_long names u row h lt is =
-    ap length (row_is names u row h lt is)
-    ∙ length-map (take (min (length (named_by names)) 256) (named_by names)) (λ p. value_at (named_in names) p (u ∷ []))
+word_cmp : (preds : List ℕ) (s : LogicalStructure) (u w : ℕ)
+    → name_cmp (name_word preds s u) (name_word preds s w) ≡ name_cmp (canonical_name preds s u) (canonical_name preds s w)
+word_cmp preds s u w =
+    let behind : List K3 = replicate (64 - length preds) No
+    in let first : Ordering = name_cmp (canonical_name preds s u) (canonical_name preds s w)
+    in cmp_append (canonical_name preds s u) (canonical_name preds s w) behind behind
+    (length-map preds (λ p. s.value p (u ∷ [])) ∙ sym (length-map preds (λ p. s.value p (w ∷ []))))
+    ∙ ap (ordering_then first) (rows_tie behind behind refl) ∙ then_tied first
 
-pub row_count : (names : CanonicalNames) → HoldsNames names → length names.rows.items ≡ (named_in names).size
-row_count names h =
-    ap length h.rows
-    ∙ length-map-range_with_len
-    (canonical_name (take (min (length (named_by names)) 256) (named_by names)) (structure_of (named_in names))) 0 (named_in names).size
+-- the first predicates, whose values words hold
+abbrev first_preds : CanonicalNames → List ℕ
+first_preds names = take (min (length (named_by names)) 64) (named_by names)
 
--- rows that differ decide
-pub rows_decide : (names : CanonicalNames) (u w : ℕ) (row other : List K3) (o : Ordering) → HoldsNames names → u < (named_in names).size
-    → w < (named_in names).size → row ≡ get_or names.rows.items u row → other ≡ get_or names.rows.items w other
-    → o ≡ name_cmp row other → o ≢ Equal → o ≡ name_cmp (canonical_name_in names u) (canonical_name_in names w)
-rows_decide names u w row other o h lt lt' is is' e ne =
-    let n : ℕ = min (length (named_by names)) 256
-    in let first : o ≡ name_cmp (canonical_name (take n (named_by names)) (structure_of (named_in names)) u)
-    (canonical_name (take n (named_by names)) (structure_of (named_in names)) w)
-    = e ∙ ap (λ name. name_cmp name other) (row_is names u row h lt is)
-    ∙ ap (name_cmp (canonical_name (take n (named_by names)) (structure_of (named_in names)) u)) (row_is names w other h lt' is')
-    in let more : Ordering = name_cmp (canonical_name (drop n (named_by names)) (structure_of (named_in names)) u)
-    (canonical_name (drop n (named_by names)) (structure_of (named_in names)) w)
-    in sym (then_decided o more ne) ∙ ap (λ x. ordering_then x more) first
-    ∙ sym (cmp_parts n (named_by names) (structure_of (named_in names)) u w)
+-- what a word holds
+pub word_is : (names : CanonicalNames) (u : ℕ) (word : List K3) → HoldsNames names → u < (named_in names).size
+    → word ≡ get_or names.words.items u word → word ≡ name_word (first_preds names) (structure_of (named_in names)) u
+word_is names u word h lt is =
+    is ∙ ap (λ xs. get_or xs u word) h.words
+    ∙ get_or-map-range_with_len (name_word (first_preds names) (structure_of (named_in names)))
+    0 (named_in names).size u u word lt (omega arith)
 
--- where the rows are equal, the rest decides
-pub rest_decides : (names : CanonicalNames) (u w : ℕ) (row other : List K3) (o last : Ordering) → HoldsNames names
+pub word_count : (names : CanonicalNames) → HoldsNames names → length names.words.items ≡ (named_in names).size
+word_count names h =
+    ap length h.words
+    ∙ length-map-range_with_len (name_word (first_preds names) (structure_of (named_in names))) 0 (named_in names).size
+
+-- words compare as the first values of the names
+words_cmp : (names : CanonicalNames) (u w : ℕ) (word other : List K3) (o : Ordering) → HoldsNames names → u < (named_in names).size
+    → w < (named_in names).size → word ≡ get_or names.words.items u word → other ≡ get_or names.words.items w other
+    → o ≡ name_cmp word other
+    → o ≡ name_cmp (canonical_name (first_preds names) (structure_of (named_in names)) u)
+    (canonical_name (first_preds names) (structure_of (named_in names)) w)
+words_cmp names u w word other o h lt lt' is is' e =
+    e ∙ ap (λ name. name_cmp name other) (word_is names u word h lt is)
+    ∙ ap (name_cmp (name_word (first_preds names) (structure_of (named_in names)) u)) (word_is names w other h lt' is')
+    ∙ word_cmp (first_preds names) (structure_of (named_in names)) u w
+
+-- words that differ decide
+pub words_decide : (names : CanonicalNames) (u w : ℕ) (word other : List K3) (o : Ordering) → HoldsNames names → u < (named_in names).size
+    → w < (named_in names).size → word ≡ get_or names.words.items u word → other ≡ get_or names.words.items w other
+    → o ≡ name_cmp word other → o ≢ Equal → o ≡ name_cmp (canonical_name_in names u) (canonical_name_in names w)
+words_decide names u w word other o h lt lt' is is' e ne =
+    let more : Ordering = name_cmp (rest_in names u) (rest_in names w)
+    in sym (then_decided o more ne)
+    ∙ ap (λ x. ordering_then x more) (words_cmp names u w word other o h lt lt' is is' e)
+    ∙ sym (cmp_parts (min (length (named_by names)) 64) (named_by names) (structure_of (named_in names)) u w)
+
+-- where the words are equal, the rest decides
+pub rest_decides : (names : CanonicalNames) (u w : ℕ) (word other : List K3) (o last : Ordering) → HoldsNames names
     → u < (named_in names).size → w < (named_in names).size
-    → row ≡ get_or names.rows.items u row → other ≡ get_or names.rows.items w other
-    → o ≡ name_cmp row other → o ≡ Equal
+    → word ≡ get_or names.words.items u word → other ≡ get_or names.words.items w other
+    → o ≡ name_cmp word other → o ≡ Equal
     → last ≡ name_cmp (rest_in names u) (rest_in names w) → last ≡ name_cmp (canonical_name_in names u) (canonical_name_in names w)
-rest_decides names u w row other o last h lt lt' is is' e tied rest =
-    let n : ℕ = min (length (named_by names)) 256
-    in let first : name_cmp (canonical_name (take n (named_by names)) (structure_of (named_in names)) u)
-    (canonical_name (take n (named_by names)) (structure_of (named_in names)) w) ≡ Equal
-    = sym (e ∙ ap (λ name. name_cmp name other) (row_is names u row h lt is)
-    ∙ ap (name_cmp (canonical_name (take n (named_by names)) (structure_of (named_in names)) u)) (row_is names w other h lt' is')) ∙ tied
-    in rest
-    ∙ ap (λ x. ordering_then x (name_cmp (rest_in names u) (rest_in names w))) (sym first)
-    ∙ sym (cmp_parts n (named_by names) (structure_of (named_in names)) u w)
+rest_decides names u w word other o last h lt lt' is is' e tied rest =
+    rest
+    ∙ ap (λ x. ordering_then x (name_cmp (rest_in names u) (rest_in names w)))
+    (sym (sym (words_cmp names u w word other o h lt lt' is is' e) ∙ tied))
+    ∙ sym (cmp_parts (min (length (named_by names)) 64) (named_by names) (structure_of (named_in names)) u w)

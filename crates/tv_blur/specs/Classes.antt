@@ -1,6 +1,6 @@
 -- The classes of individuals that have one name, and the values that are merged.
 use Rattle.std.specs.Prelude.{ℕ, ◌≡◌, ◌≢◌, ◌↔◌, ◌<◌, ◌≤◌, None, ◌||◌, Bool, nat_lt, List, [], length, All}
-use Rattle.std.specs.Prelude.{Contains, slice_index, slice_index_or}
+use Rattle.std.specs.Prelude.{Contains, Option, IfSome, slice_index, slice_index_or}
 use Rattle.std.specs.List.{AllZip}
 use Rattle.tv_kleene.specs.declared.K3.{K3}
 use Rattle.tv_kleene.specs.declared.K3.TheVariants.{No, Half, Yes}
@@ -17,6 +17,11 @@ pub record IsMask (members : List ℕ) (mask : List K3) : Type 0 where
   pub long : length mask ≡ 256
   pub flags : (u : ℕ) → slice_index_or mask u No ≢ Half
   pub members_of : (u : ℕ) → (slice_index_or mask u No ≡ Yes) ↔ Contains members u
+
+-- the members have places in a mask, and if there is one, it is theirs
+pub record MayHaveMask (members : List ℕ) (mask : Option (List K3)) : Type 0 where
+  pub small : All (λ u. u < 256) members
+  pub mask_of : IfSome mask (IsMask members)
 
 -- k is the value of the predicate at some tuple of members of the classes of these places
 abbrev pub IsValueAmong : (classes : List (List ℕ)) → StructureForm → (pred : ℕ) → (tuple : List ℕ) → K3

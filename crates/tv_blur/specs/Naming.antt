@@ -1,10 +1,11 @@
--- Names as rows of values, and the classes of the first individuals by their names.
-use Rattle.std.specs.Prelude.{ℕ, ◌≡◌, ◌≢◌, ◌<◌, ◌≤◌, List, [], length, map, min, take, drop, All, Contains}
-use Rattle.std.specs.Prelude.{Some, slice_get, slice_index, slice_index_or}
+-- Names as words of values, and the classes of the first individuals by their names.
+use Rattle.std.specs.Prelude.{ℕ, ◌≡◌, ◌≢◌, ◌<◌, ◌≤◌, ◌-◌, ◌++◌, List, [], length, map, min, take, drop, All}
+use Rattle.std.specs.Prelude.{Contains, Some, replicate, slice_get, slice_index, slice_index_or}
 use Rattle.std.specs.List.{range_with_len}
 use Rattle.std.specs.declared.cmp.Ordering.TheVariants.{Less}
 use Rattle.tv_kleene.specs.declared.K3.{K3}
 use Rattle.tv_kleene.specs.declared.K3.TheVariants.{No}
+use Rattle.tv_embedding_laws.specs.LogicalStructure.{LogicalStructure}
 use Rattle.tv_row.specs.Places.{entry_in}
 use Rattle.tv_struct.specs.StructureForm.{StructureForm, structure_of, arities_of}
 use Rattle.tv_blur.specs.declared.names.CanonicalNames.{CanonicalNames}
@@ -22,17 +23,21 @@ named_in names = names.structure.now
 abbrev pub canonical_name_in : CanonicalNames → ℕ → List K3
 canonical_name_in names u = canonical_name (named_by names) (structure_of (named_in names)) u
 
--- the values of the predicates behind the first 256
+-- the values of at most 64 predicates in a word, and No behind them
+abbrev pub name_word : (preds : List ℕ) → LogicalStructure → ℕ → List K3
+name_word preds s u = canonical_name preds s u ++ replicate (64 - length preds) No
+
+-- the values of the predicates behind the first 64
 abbrev pub rest_in : CanonicalNames → ℕ → List K3
 rest_in names u =
-    canonical_name (drop (min (length (named_by names)) 256) (named_by names))
+    canonical_name (drop (min (length (named_by names)) 64) (named_by names))
     (structure_of (named_in names)) u
 
--- the predicates are unary, and the rows have the values of the first 256
+-- the predicates are unary, and the words have the values of the first 64
 pub record HoldsNames (names : CanonicalNames) : Type 0 where
   pub unary : All (λ p. slice_get (arities_of (named_in names)) p ≡ Some 1) (named_by names)
-  pub rows : names.rows.items
-      ≡ map (canonical_name (take (min (length (named_by names)) 256) (named_by names))
+  pub words : names.words.items
+      ≡ map (name_word (take (min (length (named_by names)) 64) (named_by names))
       (structure_of (named_in names))) (range_with_len 0 (named_in names).size)
 
 -- the names of the individuals of the structure by the predicates
@@ -41,7 +46,7 @@ pub record AreNames (preds : List ℕ) (s : StructureForm) (names : CanonicalNam
   pub of : named_in names ≡ s
   pub holds : HoldsNames names
 
--- new is old with the values in a column, one in each row
+-- new is old with the values in a column, one in each word
 pub record HasColumn (column : ℕ) (values : List K3) (old new : List (List K3)) : Type 0 where
   pub count : length new ≡ length old
   pub long : (u : ℕ) → length (slice_index_or new u []) ≡ length (slice_index_or old u [])

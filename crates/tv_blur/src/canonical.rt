@@ -57,7 +57,7 @@ fn regrouped(alloc: Global, vocab: &Vocab, s: &Structure) -> Result<Structure, A
 {
     let _ = s.size();
     let preds = abstraction_preds(alloc, vocab, s)?;
-    let names = CanonicalNames::of(alloc, &preds, s)?;
+    let names = CanonicalNames::of(alloc, preds.as_slice(), s)?;
     let classes = classes(alloc, &names)?;
     merged(alloc, s, &classes)
 }

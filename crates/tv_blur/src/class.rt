@@ -1,9 +1,9 @@
 //! A class: individuals that have one name.
 
 ghost use Rattle.std.specs.Prelude.{◌≡◌, ◌<◌, ℕ, [], ◌∷◌, ◌++◌, length, All, OnOk, nat_lt, slice_index};
-ghost use Rattle.std.specs.Prelude.{slice_index_or};
+ghost use Rattle.std.specs.Prelude.{slice_index_or, IfSome, List};
 ghost use Rattle.tv_kleene.specs.declared.K3.TheVariants.{No};
-ghost use Rattle.tv_blur.specs.Classes.{IsAmongMembers};
+ghost use Rattle.tv_blur.specs.Classes.{IsAmongMembers, IsMask};
 ghost use Rattle.tv_blur.specs.Merged.{IsJoin};
 
 use smallvec::SmallVec;
@@ -18,24 +18,24 @@ const FEW: usize = 16;
 /// So many members behind the first are kept in the class itself.
 const INSIDE: usize = 6;
 
-/// Some individuals, at least one, seen by contracts as their list, and kept as bits too, so that values of
-/// many of them are joined word by word. A class of few takes no memory.
+/// Some individuals, at least one, seen by contracts as their list. Many are kept as bits too, so that their
+/// values are joined word by word. A class of few takes no memory.
 #[derive(Drop)]
 pub struct Class {
     first: u32,
     others: SmallVec<u32, INSIDE>,
-    mask: Row,
+    mask: Option<Row>,
 }
 
 impl Model for Class {
     ghost use Rattle.std.specs.Prelude.{ℕ, List, ◌∷◌};
-    ghost use Rattle.tv_blur.specs.Classes.{IsMask};
+    ghost use Rattle.tv_blur.specs.Classes.{MayHaveMask};
 
     ghost Value = { List ℕ };
 
     ghost view = { λ c. c.first ∷ c.others.items };
 
-    ghost invariant = { λ c. IsMask (c.first ∷ c.others.items) c.mask };
+    ghost invariant = { λ c. MayHaveMask (c.first ∷ c.others.items) c.mask };
 }
 
 impl Class {
@@ -44,12 +44,10 @@ impl Class {
         requires { u < 256 }
         ensures { result ≡ u ∷ [] }
     {
-        let mut mask = Row::of(256, K3::No);
-        mask.set(u, K3::Yes);
         Class {
             first: u,
             others: SmallVec::new(alloc),
-            mask,
+            mask: None,
         }
     }
 
@@ -59,7 +57,7 @@ impl Class {
         ensures { OnOk result (self.new ≡ self.old ++ u ∷ []) }
     {
         self.others.push(u)?;
-        self.mask.set(u, K3::Yes);
+        self.mask = mask_with(&self.mask, self.first, self.others.as_slice(), u);
         Ok(())
     }
 
@@ -89,14 +87,48 @@ impl Class {
         requires { All (λ u. u < length row.now) self.now }
         ensures { IsJoin (IsAmongMembers (λ u j. slice_index_or row.now u No ≡ j) self.now) result }
     {
-        if self.others.len() < FEW {
-            return joined_each(row, self.first, self.others.as_slice());
+        match &self.mask {
+            None => joined_each(row, self.first, self.others.as_slice()),
+            Some(mask) => {
+                let flags = mask.first(row.size());
+                let greatest = flags.and(row).greatest();
+                let least = flags.not().or(row).least();
+                least.join(greatest)
+            }
         }
-        let mask = self.mask.first(row.size());
-        let greatest = mask.and(row).greatest();
-        let least = mask.not().or(row).least();
-        least.join(greatest)
     }
+}
+
+/// The mask of these individuals, the last of which is `u`, if there was one of the others or they are many.
+fn mask_with(mask: &Option<Row>, first: u32, others: &[u32], u: u32) -> Option<Row>
+    requires small { All (λ w. w < 256) (first ∷ others.now) }
+    requires last { u < 256 }
+    requires known { (before : List ℕ) × (first ∷ others.now ≡ before ++ u ∷ [])
+        × IfSome mask.now (IsMask before) }
+    ensures { IfSome result (IsMask (first ∷ others.now)) }
+{
+    match mask {
+        Some(mask) => {
+            let mut more = *mask;
+            more.set(u, K3::Yes);
+            Some(more)
+        }
+        None if others.len() < FEW => None,
+        None => Some(mask_of(first, others)),
+    }
+}
+
+/// The mask of these individuals.
+fn mask_of(first: u32, others: &[u32]) -> Row
+    requires { All (λ u. u < 256) (first ∷ others.now) }
+    ensures { IsMask (first ∷ others.now) result }
+{
+    let mut mask = Row::of(256, K3::No);
+    mask.set(first, K3::Yes);
+    for i in 0..others.len() {
+        mask.set(others[i], K3::Yes);
+    }
+    mask
 }
 
 /// The join of the row's values at these individuals, one by one.

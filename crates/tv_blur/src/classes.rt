@@ -9,10 +9,17 @@ ghost use Rattle.tv_blur.specs.Naming.{HoldsNames, IsGathered, class_name, canon
 
 use crate::class::Class;
 use crate::names::CanonicalNames;
+use smallvec::SmallVec;
 use std::alloc::{AllocError, Global};
 use std::cmp::Ordering;
 use tv_model::{Pred, Vocab};
 use tv_struct::Structure;
+
+/// So many abstraction predicates are listed without an allocation.
+const FEW: usize = 16;
+
+/// Numbers of predicates. A list of few takes no memory.
+pub type PredNumbers = SmallVec<u32, FEW>;
 
 /// The unary abstraction predicates, by number, in declaration order.
 #[tactic(auto, using(crate::proofs::ClassLaws::abstraction_more))]
@@ -20,13 +27,13 @@ pub fn abstraction_preds(
     alloc: Global,
     vocab: &Vocab,
     s: &Structure,
-) -> Result<Vec<u32>, AllocError>
+) -> Result<PredNumbers, AllocError>
     requires { IsOver vocab.now s.now }
     ensures value { IfOk result (λ preds. preds.items ≡ abstraction_preds vocab.now) }
     ensures unary { IfOk result (λ preds. All (λ p. slice_get (arities_of s.now) p ≡ Some 1) preds.items) }
 {
     let _ = s.pred_count();
-    let mut preds = Vec::new(alloc);
+    let mut preds = PredNumbers::new(alloc);
     for (p, pred) in vocab.preds.as_slice().iter().enumerate() {
         push_if(&mut preds, p as u32, tells_apart(pred))?;
     }
@@ -40,7 +47,7 @@ pub fn tells_apart(pred: &Pred) -> bool
     pred.arity == 1 && pred.abs
 }
 
-fn push_if(numbers: &mut Vec<u32>, n: u32, is_kept: bool) -> Result<(), AllocError>
+fn push_if(numbers: &mut PredNumbers, n: u32, is_kept: bool) -> Result<(), AllocError>
     ensures { OnOk result (numbers.new.items ≡ numbers.old.items ++ (if is_kept then n ∷ [] else [])) }
 {
     if is_kept {

@@ -1,4 +1,4 @@
-//! The names of individuals, as rows of bits.
+//! The names of individuals, as words of bits.
 
 ghost use Rattle.std.specs.Prelude.{◌≡◌, ◌<◌, ◌≤◌, ℕ, length, map, replicate, take, drop, All, IfOk, Some};
 ghost use Rattle.std.specs.Prelude.{slice_get};
@@ -8,25 +8,26 @@ ghost use Rattle.tv_row.specs.Bits.{value_cmp};
 ghost use Rattle.tv_row.specs.Places.{entry_in};
 ghost use Rattle.tv_struct.specs.StructureForm.{arities_of, structure_of};
 ghost use Rattle.tv_blur.specs.Names.{canonical_name, name_cmp};
-ghost use Rattle.tv_blur.specs.Naming.{AreNames, HoldsNames, HasColumn, canonical_name_in, named_in, rest_in};
+ghost use Rattle.tv_blur.specs.Naming.{AreNames, HoldsNames, HasColumn, canonical_name_in, name_word};
+ghost use Rattle.tv_blur.specs.Naming.{named_in, rest_in};
 
 use std::alloc::{AllocError, Global};
 use std::cmp::Ordering;
 use tv_kleene::K3;
 use tv_model::PredId;
-use tv_row::Row;
+use tv_row::{Row, Word};
 use tv_struct::{Structure, Tuple};
 
-/// How many values of a name stand in its row.
-const ROOM: usize = 256;
+/// How many values of a name stand in its word.
+const ROOM: usize = 64;
 
 /// The names of the individuals of a structure by some unary predicates: of each individual its values of
-/// the first 256 of them in one row. What is behind these is read in the structure.
+/// the first 64 of them in one word. What is behind these is read in the structure.
 #[derive(Drop)]
 pub struct CanonicalNames<'a> {
     preds: &'a [u32],
     structure: &'a Structure,
-    rows: Vec<Row>,
+    words: Vec<Word>,
 }
 
 impl<'a> CanonicalNames<'a> {
@@ -42,7 +43,7 @@ impl<'a> CanonicalNames<'a> {
         Ok(CanonicalNames {
             preds,
             structure: s,
-            rows: rows(alloc, &preds[..preds.len().min(ROOM)], s)?,
+            words: words(alloc, &preds[..preds.len().min(ROOM)], s)?,
         })
     }
 
@@ -60,13 +61,13 @@ impl<'a> CanonicalNames<'a> {
         requires other { w < (named_in self.now).size }
         ensures { result ≡ name_cmp (canonical_name_in self.now u) (canonical_name_in self.now w) }
     {
-        match self.rows[u as usize].compare(&self.rows[w as usize]) {
+        match self.words[u as usize].compare(self.words[w as usize]) {
             Ordering::Equal => self.compare_rest(u, w),
             order => order,
         }
     }
 
-    /// Compares the names of two individuals by the predicates behind the first 256.
+    /// Compares the names of two individuals by the predicates behind the first 64.
     fn compare_rest(&self, u: u32, w: u32) -> Ordering
         requires names { HoldsNames self.now }
         requires one { u < (named_in self.now).size }
@@ -78,43 +79,45 @@ impl<'a> CanonicalNames<'a> {
     }
 }
 
-/// Of each individual its values of the predicates.
-fn rows(alloc: Global, preds: &[u32], s: &Structure) -> Result<Vec<Row>, AllocError>
-    requires few { length preds.now ≤ 256 }
+/// Of each individual its values of the predicates, and `No` behind them.
+fn words(alloc: Global, preds: &[u32], s: &Structure) -> Result<Vec<Word>, AllocError>
+    requires few { length preds.now ≤ 64 }
     requires preds { All (λ p. slice_get (arities_of s.now) p ≡ Some 1) preds.now }
     ensures { IfOk result
-        (λ rows. rows.items
-        ≡ map (canonical_name preds.now (structure_of s.now)) (range_with_len 0 s.now.size)) }
+        (λ words. words.items
+        ≡ map (name_word preds.now (structure_of s.now)) (range_with_len 0 s.now.size)) }
 {
-    let mut rows = rows_of_no(alloc, s.size(), preds.len() as u32)?;
+    let mut words = words_of_no(alloc, s.size())?;
     for (column, p) in preds.iter().enumerate() {
-        put_column(&mut rows, column as u32, &s.unary_row(PredId(*p)));
+        put_column(&mut words, column as u32, &s.unary_row(PredId(*p)));
     }
-    Ok(rows)
+    Ok(words)
 }
 
-fn rows_of_no(alloc: Global, count: u32, size: u32) -> Result<Vec<Row>, AllocError>
-    requires { size ≤ 256 }
-    ensures { IfOk result (λ rows. rows.items ≡ replicate count (replicate size No)) }
+#[tactic(auto, unfolding(tv_row::specs::Bits::padded))]
+fn words_of_no(alloc: Global, count: u32) -> Result<Vec<Word>, AllocError>
+    ensures { IfOk result (λ words. words.items ≡ replicate count (replicate 64 No)) }
 {
-    let mut rows = Vec::with_capacity(alloc, count as usize)?;
+    let mut words = Vec::with_capacity(alloc, count as usize)?;
     for _ in 0..count {
-        rows.push(Row::of(size, K3::No))?;
+        words.push(Word::of(0, K3::No))?;
     }
-    Ok(rows)
+    Ok(words)
 }
 
-/// Puts the values, one into each row, into a column that is `No` everywhere.
-fn put_column(rows: &mut [Row], column: u32, values: &Row)
-    requires count { length values.now ≡ length rows.old }
-    requires room { All (λ row. column < length row) rows.old }
-    requires blank { (u : ℕ) → entry_in rows.old u column ≡ No }
-    ensures { HasColumn column values.now rows.old rows.new }
+/// Puts the values, one into each word, into a column that is `No` everywhere.
+fn put_column(words: &mut [Word], column: u32, values: &Row)
+    requires count { length values.now ≡ length words.old }
+    requires place { column < 64 }
+    requires room { All (λ word. column < length word) words.old }
+    requires blank { (u : ℕ) → entry_in words.old u column ≡ No }
+    ensures { HasColumn column values.now words.old words.new }
 {
     let _ = values.size();
     let mut from = 0;
     while let Some(u) = values.next_possible(from) {
-        rows[u as usize].set(column, values.get(u));
+        let word = words[u as usize];
+        words[u as usize] = word.with(column, values.get(u));
         from = u + 1;
     }
 }

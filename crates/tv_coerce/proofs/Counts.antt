@@ -336,6 +336,15 @@ module _ (s : StructureForm) (b : Assignment) (ms : List MemberForm) (steps : Li
   tells-more count step m Yes Half found there some so_far tells = lacks-here s ms steps b count step m found there tells
   tells-more count step m Yes Yes found there some so_far tells = tt
 
+  -- whether or not they rule everything out so far
+  pub tells-next : (count : ℕ) (step : Step) (m : MemberForm) (now own : K3) → slice_get steps count ≡ Some step
+      → slice_get ms step.member ≡ Some m → TellsBy s b ms steps count now
+      → CountTells (value (structure_of s) b m.form ≢ Yes) (IsBarring s b m) own
+      → TellsBy s b ms steps (count + 1) (counted now own)
+  tells-next count step m No own found there so_far tells = idle-later s ms steps b count so_far
+  tells-next count step m Half own found there so_far tells = tells-more count step m Half own found there (λ e. absurd (cc e)) so_far tells
+  tells-next count step m Yes own found there so_far tells = tells-more count step m Yes own found there (λ e. absurd (cc e)) so_far tells
+
   pub tells-whole : (left : ℕ) (last : Bool) → AreSteps ms left last steps → (count : ℕ) (k : K3) → TellsBy s b ms steps count k
       → CountTells (Lacks (IsAt left last) s b ms) (IsIdle (IsAt left last) s b ms) k
   tells-whole left last are count No idle = level-idle s ms steps b left last are count idle

@@ -5,6 +5,7 @@ pub mod Heads
 pub mod Heaps
 pub mod Lacks
 pub mod Lowering
+pub mod Narrowing
 pub mod OnTheWay
 pub mod Noting
 pub mod Once

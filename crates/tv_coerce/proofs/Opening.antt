@@ -24,15 +24,17 @@ use Rattle.tv_eval_laws.specs.Value.{value}
 use Rattle.tv_eval.specs.AssignmentForm.{assignment_of}
 use Rattle.tv_struct.specs.StructureForm.{StructureForm, arities_of, structure_of, value_at}
 use Rattle.tv_struct.proofs.Library.{below-range}
-use Rattle.tv_coerce.specs.Counting.{AreLeft, IsAt, IsCounted, IsFrom, IsIdle, IsWalkStart, Lacks, counted}
-use Rattle.tv_coerce.specs.Counting.{members_in}
+use Rattle.tv_coerce.specs.Counting.{AreLeft, AreOf, IsAt, IsCounted, IsFrom, IsIdle, IsWalkStart, Lacks}
+use Rattle.tv_coerce.specs.Counting.{counted}
+use Rattle.tv_coerce.specs.Counting.{IsLater, IsSome, Tells, members_in}
 use Rattle.tv_coerce.specs.Counting.{signed_value, variables_in}
-use Rattle.tv_coerce.specs.Opened.{IsOpened, IsShut, ReadsRows}
+use Rattle.tv_coerce.specs.Opened.{IsGoingOn, IsLaterShut, IsOpened, IsShut, ReadsRows}
 use Rattle.tv_coerce.specs.Trying.{CanTry, GoesOn, IsTrial, rule_at, trial_rule}
 use Rattle.tv_stable_laws.specs.Stable.{IsHeadMet}
 use Rattle.tv_coerce.specs.Walks.{AreTriedFor, GoesOnIn, IsBetween}
 use Rattle.tv_coerce.specs.declared.trial.Trial.{Trial}
 use Rattle.tv_coerce.proofs.Counts.{counted-half, counted-no}
+use Rattle.tv_coerce.proofs.Narrowing.{idle-counted, not-yes, variable-left}
 use Rattle.tv_coerce.proofs.Placing.{idle-agreed, idle-met, idle-weaker, kin-free, kin-variable, lacks-agreed}
 use Rattle.tv_coerce.proofs.Placing.{lacks-weaker}
 use Rattle.tv_coerce.proofs.Placing.{last-free, left-free, left-on, left-out, left-placed, member-free}
@@ -62,42 +64,10 @@ module _ (trial : Trial) (is : IsTrial trial) (v : ℕ) (rest : List ℕ) (place
   -- one individual is shut out
   module _ (u : ℕ) (k : K3) (some : k ≢ No)
       (own : k ≡ Half → Lacks (IsAt (length rest) false) s (put (assignment_of places) v u) ms)
-      (shut : IsShut trial steps v u tail k) (b : Assignment)
+      (b : Assignment)
       (goes : GoesOn (variables_in trial) (v ∷ rest ++ trial.last.0 ∷ []) (assignment_of places) b)
       (here : b v ≡ u) (j : ℕ) (low : j < 64) (last : 64 * trial.chunk + j ≡ b trial.last.0)
       (inside : 64 * trial.chunk + j < s.size) where
-    first-step : (m : MemberForm) × (slice_get ms shut.step.member ≡ Some m) × IsSteppedBy (length rest) true shut.step m
-    first-step =
-        let within : 0 < length steps = slice_get_within steps 0 shut.step shut.first
-        in let there : get_or steps 0 shut.step ≡ shut.step
-        = same_Some (get_or steps 0 shut.step) shut.step (sym (slice_get-get_or steps 0 shut.step within) ∙ shut.first)
-        in some-and (slice_get ms shut.step.member) (IsSteppedBy (length rest) true shut.step)
-        (subst (IsStepOf ms (length rest) true) there (are.each 0 shut.step within))
-
-    abbrev m : MemberForm
-    m = first-step.0
-
-    at-last : IsAt (length rest) true m
-    at-last = (first-step.2.0, first-step.2.1)
-
-    read : IsReadAs trial.last.0 (Second shut.flag shut.pred shut.var) m.form
-    read = subst (λ r. IsReadAs trial.last.0 r m.form) (first-step.2.2 ∙ shut.reads)
-        ((left-placed trial is rest on shut.step.member m first-step.1).along first-step.2.1)
-
-    abbrev own-value : K3
-    own-value = signed_value shut.flag (value_at s shut.pred.0 (u ∷ (64 * trial.chunk + j) ∷ []))
-
-    member-value : value (structure_of s) b m.form ≡ own-value
-    member-value =
-        ap (value (structure_of s) b) read.0
-        ∙ signed-value s b shut.flag (FAtom shut.pred.0 (shut.var.0 ∷ trial.last.0 ∷ []))
-        ∙ ap (signed_value shut.flag)
-        (ap (λ x. value_at s shut.pred.0 (x ∷ b trial.last.0 ∷ [])) (ap b shut.own ∙ here)
-        ∙ ap (λ x. value_at s shut.pred.0 (u ∷ x ∷ [])) (sym last))
-
-    none : counted (counted (get_or tail j No) k) (value (structure_of s) b m.form) ≡ No
-    none = subst (λ x. counted (counted (get_or tail j No) k) x ≡ No) (sym member-value) (shut.none j low inside)
-
     abbrev before : Assignment
     before = put (assignment_of places) trial.last.0 (64 * trial.chunk + j)
 
@@ -123,15 +93,6 @@ module _ (trial : Trial) (is : IsTrial trial) (v : ℕ) (rest : List ℕ) (place
 
     lacks-own : k ≡ Half → Lacks (IsAt (length rest) false) s b ms
     lacks-own e = lacks-agreed s (put (assignment_of places) v u) b ms (IsAt (length rest) false) own-same (own e)
-
-    lacks-here : value (structure_of s) b m.form ≢ Yes → Lacks (IsAt (length rest) true) s b ms
-    lacks-here other = record {
-      number = shut.step.member;
-      member = m;
-      there = first-step.1;
-      those = at-last;
-      lacks = other;
-    }
 
     from-before : (o : MemberForm) → IsFrom (length (v ∷ rest)) o → IsFrom (length rest) o
     from-before o enough = omega (arith, enough)
@@ -175,40 +136,164 @@ module _ (trial : Trial) (is : IsTrial trial) (v : ℕ) (rest : List ℕ) (place
             (idle-agreed s before b ms (IsFrom (length (v ∷ rest))) before-same (start.idle j low inside e'))
         at (inr ne) = split (counted-no (get_or tail j No) k ne e)
 
-    shut-idle : IsIdle (IsFrom (length rest)) s b ms
-    shut-idle = at (no-or-not (counted (get_or tail j No) k))
-      where
-        with-half : Lacks (IsAt (length rest) true) s b ms → (get_or tail j No ≡ Half) ⊎ (k ≡ Half)
-            → IsIdle (IsFrom (length rest)) s b ms
-        with-half other (inl e) = two-before true (lacks-before e) other
-        with-half other (inr e) = two-own (lacks-own e) other
+    -- by a row
+    module _ (shut : IsShut trial steps v u tail k) where
+      first-step : (m : MemberForm) × (slice_get ms shut.step.member ≡ Some m) × IsSteppedBy (length rest) true shut.step m
+      first-step =
+          let within : 0 < length steps = slice_get_within steps 0 shut.step shut.first
+          in let there : get_or steps 0 shut.step ≡ shut.step
+          = same_Some (get_or steps 0 shut.step) shut.step (sym (slice_get-get_or steps 0 shut.step within) ∙ shut.first)
+          in some-and (slice_get ms shut.step.member) (IsSteppedBy (length rest) true shut.step)
+          (subst (IsStepOf ms (length rest) true) there (are.each 0 shut.step within))
 
-        split : (value (structure_of s) b m.form ≡ No)
-            ⊎ ((counted (get_or tail j No) k ≡ Half) × (value (structure_of s) b m.form ≢ Yes))
-            → IsIdle (IsFrom (length rest)) s b ms
-        split (inl e) = inl (record {
-          number = shut.step.member;
-          member = m;
-          there = first-step.1;
-          those = from-own true m at-last;
-          bars = inl e;
-        })
-        split (inr two) = with-half (lacks-here two.1) (counted-half (get_or tail j No) k two.0)
+      abbrev m : MemberForm
+      m = first-step.0
 
-        at : (counted (get_or tail j No) k ≡ No) ⊎ (counted (get_or tail j No) k ≢ No) → IsIdle (IsFrom (length rest)) s b ms
-        at (inl e) = begun-none e
-        at (inr ne) = split (counted-no (counted (get_or tail j No) k) (value (structure_of s) b m.form) ne none)
+      at-last : IsAt (length rest) true m
+      at-last = (first-step.2.0, first-step.2.1)
+
+      read : IsReadAs trial.last.0 (Second shut.flag shut.pred shut.var) m.form
+      read = subst (λ r. IsReadAs trial.last.0 r m.form) (first-step.2.2 ∙ shut.reads)
+          ((left-placed trial is rest on shut.step.member m first-step.1).along first-step.2.1)
+
+      abbrev own-value : K3
+      own-value = signed_value shut.flag (value_at s shut.pred.0 (u ∷ (64 * trial.chunk + j) ∷ []))
+
+      member-value : value (structure_of s) b m.form ≡ own-value
+      member-value =
+          ap (value (structure_of s) b) read.0
+          ∙ signed-value s b shut.flag (FAtom shut.pred.0 (shut.var.0 ∷ trial.last.0 ∷ []))
+          ∙ ap (signed_value shut.flag)
+          (ap (λ x. value_at s shut.pred.0 (x ∷ b trial.last.0 ∷ [])) (ap b shut.own ∙ here)
+          ∙ ap (λ x. value_at s shut.pred.0 (u ∷ x ∷ [])) (sym last))
+
+      none : counted (counted (get_or tail j No) k) (value (structure_of s) b m.form) ≡ No
+      none = subst (λ x. counted (counted (get_or tail j No) k) x ≡ No) (sym member-value) (shut.none j low inside)
+
+      lacks-here : value (structure_of s) b m.form ≢ Yes → Lacks (IsAt (length rest) true) s b ms
+      lacks-here other = record {
+        number = shut.step.member;
+        member = m;
+        there = first-step.1;
+        those = at-last;
+        lacks = other;
+      }
+
+      shut-idle : IsIdle (IsFrom (length rest)) s b ms
+      shut-idle = at (no-or-not (counted (get_or tail j No) k))
+        where
+          with-half : Lacks (IsAt (length rest) true) s b ms → (get_or tail j No ≡ Half) ⊎ (k ≡ Half)
+              → IsIdle (IsFrom (length rest)) s b ms
+          with-half other (inl e) = two-before true (lacks-before e) other
+          with-half other (inr e) = two-own (lacks-own e) other
+
+          split : (value (structure_of s) b m.form ≡ No)
+              ⊎ ((counted (get_or tail j No) k ≡ Half) × (value (structure_of s) b m.form ≢ Yes))
+              → IsIdle (IsFrom (length rest)) s b ms
+          split (inl e) = inl (record {
+            number = shut.step.member;
+            member = m;
+            there = first-step.1;
+            those = from-own true m at-last;
+            bars = inl e;
+          })
+          split (inr two) = with-half (lacks-here two.1) (counted-half (get_or tail j No) k two.0)
+
+          at : (counted (get_or tail j No) k ≡ No) ⊎ (counted (get_or tail j No) k ≢ No) → IsIdle (IsFrom (length rest)) s b ms
+          at (inl e) = begun-none e
+          at (inr ne) = split (counted-no (counted (get_or tail j No) k) (value (structure_of s) b m.form) ne none)
+
+    -- by what was narrowed
+    module _ (within : AreOf s.size (variables_in trial) b) (i : ℕ) (is-i : b v ≡ i)
+        (shut : IsLaterShut trial.later.now (length rest) i tail k) where
+      abbrev g : K3
+      g = greatest_in tail
+
+      later-told : Tells (IsLater (length rest)) s b ms (get_or shut.word i No)
+      later-told =
+          subst (λ x. Tells (IsLater (length rest)) s b ms (get_or shut.word x No))
+          (ap b (variable-left trial v rest start.left) ∙ is-i)
+          ((start.narrowed (length rest) shut.word shut.there).2 b within)
+
+      later-some : (y : K3) → y ≢ Yes → Tells (IsLater (length rest)) s b ms y → Lacks (IsLater (length rest)) s b ms ⊎ IsIdle IsSome s b ms
+      later-some No other told = inr (idle-weaker s b ms (IsLater (length rest)) IsSome (λ o some'. tt) told)
+      later-some Half other told = inl told
+      later-some Yes other told = absurd (other refl)
+
+      later-none : (y : K3) → y ≡ No → Tells (IsLater (length rest)) s b ms y → IsIdle IsSome s b ms
+      later-none No e told = idle-weaker s b ms (IsLater (length rest)) IsSome (λ o some'. tt) told
+      later-none Half e told = absurd (cc e)
+      later-none Yes e told = absurd (cc e)
+
+      some-idle : IsIdle (IsFrom (length rest)) s b ms → IsIdle IsSome s b ms
+      some-idle = idle-weaker s b ms (IsFrom (length rest)) IsSome (λ o some'. tt)
+
+      tail-none : get_or tail j No ≡ No → IsIdle IsSome s b ms
+      tail-none e = some-idle
+          (idle-weaker s b ms (IsFrom (length (v ∷ rest))) (IsFrom (length rest)) from-before
+          (idle-agreed s before b ms (IsFrom (length (v ∷ rest))) before-same (start.idle j low inside e)))
+
+      -- what was counted by then, as far as it isn't Yes
+      tail-some : g ≢ Yes → Lacks (IsFrom (length (v ∷ rest))) s b ms ⊎ IsIdle IsSome s b ms
+      tail-some other = at (no-or-not (get_or tail j No))
+        where
+          at : (get_or tail j No ≡ No) ⊎ (get_or tail j No ≢ No) → Lacks (IsFrom (length (v ∷ rest))) s b ms ⊎ IsIdle IsSome s b ms
+          at (inl e) = inr (tail-none e)
+          at (inr ne) = inl (lacks-before (half-of (get_or tail j No) ne (not-yes tail j other)))
+
+      two-later : (Those : MemberForm → Type 0) → ((o : MemberForm) → Those o → ¬ IsLater (length rest) o)
+          → Lacks Those s b ms → Lacks (IsLater (length rest)) s b ms → IsIdle IsSome s b ms
+      two-later Those apart one other =
+          idle-counted s b ms Those (IsLater (length rest)) IsSome (λ o some'. tt) (λ o some'. tt) apart one other
+
+      before-later : (o : MemberForm) → IsFrom (length (v ∷ rest)) o → ¬ IsLater (length rest) o
+      before-later o enough (inl less) = absurd (omega (arith, enough, less))
+      before-later o enough (inr at) = absurd (omega (arith, enough, at.0))
+
+      own-later : (o : MemberForm) → IsAt (length rest) false o → ¬ IsLater (length rest) o
+      own-later o at (inl less) = absurd (omega (arith, at.0, less))
+      own-later o at (inr two) = let clash : true ≡ false = sym two.1 ∙ at.1 in absurd (cc)
+
+      pub later-idle : IsIdle IsSome s b ms
+      later-idle = at (no-or-not (counted k g))
+        where
+          from-tail : Lacks (IsFrom (length (v ∷ rest))) s b ms ⊎ IsIdle IsSome s b ms → k ≡ Half → IsIdle IsSome s b ms
+          from-tail (inl one) e = some-idle (two-before false one (lacks-own e))
+          from-tail (inr idle) e = idle
+
+          first : (g ≡ No) ⊎ ((k ≡ Half) × (g ≢ Yes)) → IsIdle IsSome s b ms
+          first (inl e) = tail-none (none-some tail e j)
+          first (inr two) = from-tail (tail-some two.1) two.0
+
+          both : Lacks (IsFrom (length (v ∷ rest))) s b ms ⊎ IsIdle IsSome s b ms → Lacks (IsLater (length rest)) s b ms
+              → IsIdle IsSome s b ms
+          both (inl one) other = two-later (IsFrom (length (v ∷ rest))) before-later one other
+          both (inr idle) other = idle
+
+          by-half : (k ≡ Half) ⊎ (g ≡ Half) → Lacks (IsLater (length rest)) s b ms → IsIdle IsSome s b ms
+          by-half (inl e) other = two-later (IsAt (length rest) false) own-later (lacks-own e) other
+          by-half (inr e) other = both (tail-some (λ yes. let clash : Half ≡ Yes = sym e ∙ yes in absurd (cc))) other
+
+          second : (get_or shut.word i No ≡ No) ⊎ ((counted k g ≡ Half) × (get_or shut.word i No ≢ Yes)) → IsIdle IsSome s b ms
+          second (inl e) = later-none (get_or shut.word i No) e later-told
+          second (inr two) =
+              ⊎_elim (by-half (counted-half k g two.0)) (λ idle. idle) (later-some (get_or shut.word i No) two.1 later-told)
+
+          at : (counted k g ≡ No) ⊎ (counted k g ≢ No) → IsIdle IsSome s b ms
+          at (inl e) = first (counted-no k g some e)
+          at (inr ne) = second (counted-no (counted k g) (get_or shut.word i No) ne shut.none)
 
   -- individuals that aren't left
-  pub open-passed : (chunk : ℕ) (all own alive : List K3) → IsAll s.size chunk Yes all
+  pub open-passed : (chunk : ℕ) (all own ways alive : List K3) → IsAll s.size chunk Yes all
       → IsCounted s.size (assignment_of places) v chunk (λ b. Lacks (IsAt (length rest) false) s b ms)
       (λ b. IsIdle (IsAt (length rest) false) s b ms) all own
-      → IsOpened trial steps v chunk tail own alive
+      → IsOpened trial steps v chunk tail own ways → IsGoingOn trial.later.now (length rest) tail ways alive
+      → 64 * chunk < s.size
       → (from end : ℕ) → end ≤ 64 → ((i : ℕ) → from ≤ i → i < end → get_or alive i No ≡ No)
       → AreTriedFor trial
       (λ b. GoesOnIn trial (v ∷ rest ++ trial.last.0 ∷ []) (assignment_of places) b
       × IsBetween v (64 * chunk + from) (64 * chunk + end) b)
-  open-passed chunk all own alive whole so_far opened from end few ruled n kin b (goes, between) individuals body =
+  open-passed chunk all own ways alive whole so_far opened going nonempty from end few ruled n kin b (goes, between) individuals body =
       let i : ℕ = b v - 64 * chunk
       in let is-i : 64 * chunk + i ≡ b v = omega (arith, between.0)
       in let low : i < 64 = omega (arith, is-i, between.1, few)
@@ -222,6 +307,30 @@ module _ (trial : Trial) (is : IsTrial trial) (v : ℕ) (rest : List ℕ) (place
       within-last = below-range s.size (b trial.last.0)
           (individuals trial.last.0 (kin-free trial is n kin trial.last.0 (last-free trial is rest on)))
 
+      within-all : AreOf s.size (variables_in trial) b
+      within-all x has = below-range s.size (b x) (individuals x (((is.kin n kin).free x).0 has))
+
+      half : (i : ℕ) → 64 * chunk + i ≡ b v → i < 64 → get_or own i No ≡ Half
+          → Lacks (IsAt (length rest) false) s (put (assignment_of places) v (64 * chunk + i)) ms
+      half i is-i low = own-half s places v chunk ms (length rest) all own whole so_far i low (omega (arith, is-i, within-v))
+
+      by-row : (j : ℕ) → 64 * trial.chunk + j ≡ b trial.last.0 → (i : ℕ) → 64 * chunk + i ≡ b v → i < 64 → get_or own i No ≢ No → get_or ways i No ≡ No
+          → IsHeadMet (structure_of s) b (rule_at trial.closed.now n).head
+      by-row j is-j i is-i low some is-none =
+          idle-met trial is n kin b body (IsFrom (length rest))
+          (shut-idle (64 * chunk + i) (get_or own i No) some (half i is-i low) b goes.0 (sym is-i) j (omega (arith, is-j, goes.1.1)) is-j
+          (omega (arith, is-j, within-last)) (opened.shut i low some is-none))
+
+      by-later : (j : ℕ) → 64 * trial.chunk + j ≡ b trial.last.0 → (i : ℕ) → 64 * chunk + i ≡ b v → i < 64 → get_or own i No ≢ No → get_or ways i No ≢ No → get_or alive i No ≡ No
+          → IsHeadMet (structure_of s) b (rule_at trial.closed.now n).head
+      by-later j is-j i is-i low some some' is-none =
+          let shut : IsLaterShut trial.later.now (length rest) i tail (get_or own i No)
+          = subst (IsLaterShut trial.later.now (length rest) i tail) (opened.kept i low some') (going.shut i low some' is-none)
+          in let few-all : s.size ≤ 64 = (start.narrowed (length rest) shut.word shut.there).0
+          in idle-met trial is n kin b body IsSome
+          (later-idle (64 * chunk + i) (get_or own i No) some (half i is-i low) b goes.0 (sym is-i) j (omega (arith, is-j, goes.1.1)) is-j
+          (omega (arith, is-j, within-last)) within-all i (omega (arith, is-i, nonempty, few-all)) shut)
+
       at : (i : ℕ) → 64 * chunk + i ≡ b v → i < 64 → get_or alive i No ≡ No → (get_or own i No ≡ No) ⊎ (get_or own i No ≢ No)
           → IsHeadMet (structure_of s) b (rule_at trial.closed.now n).head
       at i is-i low is-none (inl e) =
@@ -231,11 +340,7 @@ module _ (trial : Trial) (is : IsTrial trial) (v : ℕ) (rest : List ℕ) (place
       at i is-i low is-none (inr some) =
           let j : ℕ = b trial.last.0 - 64 * trial.chunk
           in let is-j : 64 * trial.chunk + j ≡ b trial.last.0 = omega (arith, goes.1.0)
-          in idle-met trial is n kin b body (IsFrom (length rest))
-          (shut-idle (64 * chunk + i) (get_or own i No) some
-          (own-half s places v chunk ms (length rest) all own whole so_far i low (omega (arith, is-i, within-v)))
-          (opened.shut i low some is-none) b goes.0 (sym is-i) j (omega (arith, is-j, goes.1.1)) is-j
-          (omega (arith, is-j, within-last)))
+          in ⊎_elim (by-row j is-j i is-i low some) (λ some'. by-later j is-j i is-i low some some' is-none) (no-or-not (get_or ways i No))
 
 -- ---- rows that are read
 

@@ -42,9 +42,11 @@ use Rattle.tv_eval.specs.declared.evaluator.Evaluator.{Evaluator}
 use Rattle.tv_struct.specs.StructureForm.{StructureForm, structure_of}
 use Rattle.tv_struct.proofs.Library.{Contains-range, below-range}
 use Rattle.tv_rules.specs.Kin.{IsKin}
-use Rattle.tv_coerce.specs.Counting.{AreLeft, CountTells, IsAt, IsCounted, IsFrom, IsIdle, IsWalkStart, Lacks}
+use Rattle.tv_coerce.specs.Counting.{AreLeft, AreNarrowed, CountTells, IsAt, IsCounted, IsFrom, IsIdle}
+use Rattle.tv_coerce.specs.Counting.{IsWalkStart, Lacks}
 use Rattle.tv_coerce.specs.Counting.{counted}
 use Rattle.tv_coerce.specs.Counting.{members_in, variables_in}
+use Rattle.std.specs.Borrow.{Bor}
 use Rattle.std.specs.Global.{Vec}
 use Rattle.tv_coerce.specs.declared.noted.Ask.{Ask}
 use Rattle.tv_coerce.specs.declared.noted.Noted.{Noted}
@@ -357,6 +359,7 @@ module _ (trial : Trial) (is : IsTrial trial) where
   start-kept rest old new tail kept start = record {
     left = start.left;
     chunk = start.chunk;
+    narrowed = start.narrowed;
     placed = λ w free none. subst (λ o. IsSomeAnd o (λ x. x < trial.structure.now.size)) (sym (kept w none)) (start.placed w free none);
     long = start.long;
     within = start.within;
@@ -477,6 +480,7 @@ module _ (trial : Trial) (is : IsTrial trial) where
     walk-on = record {
       left = on;
       chunk = start.chunk;
+      narrowed = start.narrowed;
       placed = put-placed v (rest ++ trial.last.0 ∷ []) s.size (trial_rule trial) u places new is-put within start.placed;
       long = so_far.long;
       within = λ i low some'. start.within i low
@@ -503,7 +507,7 @@ module _ (trial : Trial) (is : IsTrial trial) where
 
   -- the first word, where the members without variables count as k
   module _ (before : List ℕ) (places : List (Option ℕ)) (k : K3) (word tail : List K3) (vars : variables_in trial ≡ before ++ trial.last.0 ∷ [])
-      (nonempty : 64 * trial.chunk < trial.structure.now.size) (some : k ≢ No)
+      (nonempty : 64 * trial.chunk < trial.structure.now.size) (narrowed : AreNarrowed trial trial.later.now) (some : k ≢ No)
       (own : k ≡ Half → Lacks (IsAt (length before) false) trial.structure.now (assignment_of places) (members_in trial))
       (all : IsAll trial.structure.now.size trial.chunk k word)
       (so_far : IsCounted trial.structure.now.size (assignment_of places) trial.last.0 trial.chunk
@@ -542,6 +546,7 @@ module _ (trial : Trial) (is : IsTrial trial) where
     start-first = record {
       left = ([], vars);
       chunk = nonempty;
+      narrowed = narrowed;
       placed = λ x free none. absurd (none (subst (λ xs. Contains xs x) vars (((own-tried trial is).free x).1 free)));
       long = so_far.long;
       within = λ i low some'. all.within i low (so_far.some i low some');
@@ -661,12 +666,31 @@ of-chunk trial last chunk = record {
   shape = trial.shape;
   last = last;
   chunk = chunk;
+  later = trial.later;
 }
 
 pub told-of : (trial : Trial) (w : Var) (k : ℕ) (Those : Assignment → Type 0) (old new : Noted)
     → IsTold (of-chunk trial w k) (AreTriedFor (of-chunk trial w k) Those) old new Possible
     → IsTold trial (AreTriedFor trial Those) old new Possible
 told-of trial w k Those old new told = record { forced = told.forced; grows = told.grows; tells = told.tells }
+
+-- the trial with this last variable, and with what was narrowed
+abbrev pub with-last : Trial → Var → Bor (List (List K3)) → Trial
+with-last trial last later = record {
+  structure = trial.structure;
+  closed = trial.closed;
+  number = trial.number;
+  shape = trial.shape;
+  last = last;
+  chunk = trial.chunk;
+  later = later;
+}
+
+pub told-with : (trial : Trial) (w : Var) (later : Bor (List (List K3))) (Those : Assignment → Type 0) (old new : Noted) (outcome : Outcome)
+    → IsTold (with-last trial w later) (AreTriedFor (with-last trial w later) Those) old new outcome
+    → IsTold trial (AreTriedFor trial Those) old new outcome
+told-with trial w later Those old new Possible told = record { forced = told.forced; grows = told.grows; tells = told.tells }
+told-with trial w later Those old new Impossible told = record { forced = told.forced; grows = told.grows; tells = told.tells }
 
 -- where no variable but those that are left is
 pub first-tried : (trial : Trial) (before : List ℕ) (a : Assignment) → variables_in trial ≡ before ++ trial.last.0 ∷ []

@@ -3,15 +3,17 @@
 -- at most one isn't Yes, which is unknown. What is counted of the last variable is a word of individuals,
 -- counted on as soon as another variable has its individual.
 use Rattle.std.specs.Prelude.{ℕ, ◌≡◌, ◌≢◌, ◌<◌, ◌≤◌, ◌+◌, ◌*◌, ◌⊎◌, Bool, true, false, List, [], ◌∷◌, ◌++◌}
-use Rattle.std.specs.Prelude.{length, Option, Some, slice_get, slice_index_or}
+use Rattle.std.specs.Prelude.{◌-◌, Contains, length, Option, Some, slice_get, slice_index_or}
 use Rattle.tv_kleene.specs.declared.K3.{K3}
 use Rattle.tv_kleene.specs.declared.K3.TheVariants.{No, Half, Yes}
-use Rattle.tv_kleene.specs.Kleene.{negation_of}
+use Rattle.tv_kleene.specs.Kleene.{IsAtMost, negation_of}
 use Rattle.tv_model.specs.Form.{FExists}
 use Rattle.tv_model.specs.Truth.{Assignment, put}
 use Rattle.tv_model.specs.Valid.{IsFormulaOver}
 use Rattle.tv_coerce_members.specs.Members.{MemberForm, IsReadAs, is_literal, members_of, numbers_of}
 use Rattle.tv_coerce_members.specs.declared.levels.Step.{Step}
+use Rattle.tv_coerce_members.specs.declared.readings.Reading.{Reading}
+use Rattle.tv_coerce_members.specs.declared.readings.Reading.TheVariants.{Alone, Second, First, Same, Other}
 use Rattle.tv_eval_laws.specs.Value.{value}
 use Rattle.tv_eval.specs.AssignmentForm.{assignment_of}
 use Rattle.tv_eval.specs.Formulas.{AreAssigned}
@@ -147,6 +149,60 @@ pub record CanRead (trial : Trial) (room : ScratchForm) (v : ℕ) (places : List
   pub fits : HasScratchFor room member.form trial.structure.now.size
   pub read : IsReadAs v step.reading member.form
 
+-- ---- what was narrowed before the walk
+
+-- a member that waits for the variables that are left, or that is tested of the last variable as soon as the
+-- one before those has its individual
+abbrev pub IsLater : (left : ℕ) → MemberForm → Type 0
+IsLater left m = (m.left < left) ⊎ ((m.left ≡ left) × (m.last ≡ true))
+
+-- what the value tells of how those members count
+abbrev pub Tells : (Those : MemberForm → Type 0) → StructureForm → Assignment → List MemberForm → K3 → Type 0
+Tells Those s b ms k = CountTells (Lacks Those s b ms) (IsIdle Those s b ms) k
+
+-- the assignment gives individuals to these variables
+abbrev pub AreOf : (size : ℕ) → (vars : List ℕ) → Assignment → Type 0
+AreOf size vars b = (x : ℕ) → Contains vars x → b x < size
+
+-- the variable before the last that has so many between itself and the last
+abbrev pub variable_at : (vars : List ℕ) → (left : ℕ) → ℕ
+variable_at vars left = slice_index_or vars (length vars - (left + 2)) 0
+
+-- by the individual of that variable, the word tells of the later members whatever the other variables stand
+-- for
+abbrev pub IsNarrowed : StructureForm → (vars : List ℕ) → List MemberForm → (left : ℕ) → List K3 → Type 0
+IsNarrowed s vars ms left word =
+    (b : Assignment) → AreOf s.size vars b
+    → Tells (IsLater left) s b ms (slice_index_or word (b (variable_at vars left)) No)
+
+-- each of the words does
+abbrev pub AreNarrowed : Trial → List (List K3) → Type 0
+AreNarrowed trial later =
+    (left : ℕ) (word : List K3) → slice_get later left ≡ Some word
+    → (trial.structure.now.size ≤ 64) × (length word ≡ 64)
+    × IsNarrowed trial.structure.now (variables_in trial) (members_in trial) left word
+
+-- the step's member is over the structure's predicates, and is read so along w
+pub record IsSeen (trial : Trial) (w : ℕ) (step : Step) : Type 0 where
+  pub member : MemberForm
+  pub there : slice_get (members_in trial) step.member ≡ Some member
+  pub formula : IsFormulaOver (arities_of trial.structure.now) member.form
+  pub read : IsReadAs w step.reading member.form
+
+-- no other variable is read, beside the one along which the values stand
+abbrev pub RestsOn : (v : ℕ) → Reading → Type 0
+RestsOn v (Alone flag p) = Unit {0}
+RestsOn v (Second flag p x) = x.0 ≡ v
+RestsOn v (First flag p x) = x.0 ≡ v
+RestsOn v (Same flag x) = x.0 ≡ v
+RestsOn v Other = ⊥
+
+-- how the members of a level count under the assignment, which with the first value is at most the second
+pub record IsBest (trial : Trial) (left : ℕ) (last : Bool) (b : Assignment) (begun best : K3) : Type 0 where
+  pub own : K3
+  pub tells : Tells (IsAt left last) trial.structure.now b (members_in trial) own
+  pub most : IsAtMost (counted begun own) best
+
 -- ---- the walk
 
 -- the trial's variables are some, then those that are left before the last, then the last
@@ -160,6 +216,7 @@ pub record IsWalkStart (trial : Trial) (rest : List ℕ) (places : List (Option 
   pub left : AreLeft trial rest
   pub chunk : 64 * trial.chunk < trial.structure.now.size
   pub placed : ArePlaced trial.structure.now.size (trial_rule trial) (rest ++ trial.last.0 ∷ []) places
+  pub narrowed : AreNarrowed trial trial.later.now
   pub long : length tail ≡ 64
   pub within : (i : ℕ) → i < 64 → slice_index_or tail i No ≢ No
       → 64 * trial.chunk + i < trial.structure.now.size

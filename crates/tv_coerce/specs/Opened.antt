@@ -1,8 +1,10 @@
--- Which individuals of a variable leave one of the last variable, as far as a row of the structure tells.
-use Rattle.std.specs.Prelude.{ℕ, ◌≡◌, ◌≢◌, ◌<◌, ◌+◌, ◌*◌, Bool, List, [], ◌∷◌, Some, slice_get}
+-- Which individuals of a variable leave one of the last variable, as far as a row of the structure tells, or
+-- leave something to be asked for, as far as was narrowed.
+use Rattle.std.specs.Prelude.{ℕ, ◌≡◌, ◌≢◌, ◌<◌, ◌+◌, ◌*◌, Bool, List, [], ◌∷◌, Some, length, slice_get}
 use Rattle.std.specs.Prelude.{slice_index_or}
 use Rattle.tv_kleene.specs.declared.K3.{K3}
 use Rattle.tv_kleene.specs.declared.K3.TheVariants.{No}
+use Rattle.tv_row.specs.Bits.{greatest_in}
 use Rattle.tv_model.specs.declared.formula.PredId.{PredId}
 use Rattle.tv_model.specs.declared.formula.Var.{Var}
 use Rattle.tv_coerce_members.specs.declared.levels.Step.{Step}
@@ -33,7 +35,21 @@ pub record IsShut (trial : Trial) (steps : List Step) (v u : ℕ) (tail : List K
 
 -- the new word has the values of the old one but for individuals that leave none
 pub record IsOpened (trial : Trial) (steps : List Step) (v chunk : ℕ) (tail old new : List K3) : Type 0 where
+  pub long : length new ≡ 64
   pub kept : (i : ℕ) → i < 64 → slice_index_or new i No ≢ No
       → slice_index_or new i No ≡ slice_index_or old i No
   pub shut : (i : ℕ) → i < 64 → slice_index_or old i No ≢ No → slice_index_or new i No ≡ No
       → IsShut trial steps v (64 * chunk + i) tail (slice_index_or old i No)
+
+-- with u put for the variable before those that are left, which counts as k, no later member leaves anything
+-- to be asked for, as far as was narrowed
+pub record IsLaterShut (later : List (List K3)) (left u : ℕ) (tail : List K3) (k : K3) : Type 0 where
+  pub word : List K3
+  pub there : slice_get later left ≡ Some word
+  pub none : counted (counted k (greatest_in tail)) (slice_index_or word u No) ≡ No
+
+-- the new word has No where the old one has it, and for individuals that leave nothing
+pub record IsGoingOn (later : List (List K3)) (left : ℕ) (tail old new : List K3) : Type 0 where
+  pub some : (i : ℕ) → i < 64 → slice_index_or new i No ≢ No → slice_index_or old i No ≢ No
+  pub shut : (i : ℕ) → i < 64 → slice_index_or old i No ≢ No → slice_index_or new i No ≡ No
+      → IsLaterShut later left i tail (slice_index_or old i No)

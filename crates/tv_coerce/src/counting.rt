@@ -38,7 +38,7 @@ fn count_of(literal: bool, k: K3) -> K3
 
 /// How the step's member counts.
 fn count_step<'a>(
-    trial: &Trial<'a>,
+    trial: &Trial<'a, '_>,
     evaluator: &mut Evaluator<'a>,
     step: &Step,
     a: &Assignment,
@@ -60,7 +60,7 @@ fn count_step<'a>(
 
 /// How the members that are tested together count.
 pub(crate) fn count<'a>(
-    trial: &Trial<'a>,
+    trial: &Trial<'a, '_>,
     evaluator: &mut Evaluator<'a>,
     steps: &[Step],
     a: &Assignment,
@@ -109,7 +109,7 @@ fn lacking_too(found: Missing, number: usize, value: K3) -> Missing
 
 /// Which members aren't `Yes` under the assignment.
 pub(crate) fn lacking<'a>(
-    trial: &Trial<'a>,
+    trial: &Trial<'a, '_>,
     evaluator: &mut Evaluator<'a>,
     a: &Assignment,
 ) -> Missing

@@ -38,6 +38,7 @@ pub(crate) fn find<'a>(
         shape: closed.shape(number),
         last: Var(0),
         chunk: 0,
+        later: &[],
     };
     let mut noted = Noted::new(alloc, s.size());
     match walk_all(&trial, evaluator, a, &mut noted)? {

@@ -9,6 +9,7 @@ mod finding;
 mod greatest;
 mod laws;
 mod lower;
+mod narrow;
 mod need;
 mod noted;
 mod places;

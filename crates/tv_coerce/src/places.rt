@@ -29,7 +29,7 @@ use tv_struct::Structure;
 
 /// The values, negated where the flag is false.
 #[inline(always)]
-fn signed(s: &Structure, flag: bool, word: Word, chunk: u32) -> Word
+pub(crate) fn signed(s: &Structure, flag: bool, word: Word, chunk: u32) -> Word
     requires { 64 * chunk < s.now.size }
     ensures { (g : ℕ → K3) → IsWordOf s.now.size chunk g word
         → IsWordOf s.now.size chunk (λ u. signed_value flag (g u)) result }
@@ -45,7 +45,7 @@ fn signed(s: &Structure, flag: bool, word: Word, chunk: u32) -> Word
 /// variable.
 #[inline(always)]
 fn read<'a>(
-    trial: &Trial<'a>,
+    trial: &Trial<'a, '_>,
     evaluator: &mut Evaluator<'a>,
     step: &Step,
     v: Var,
@@ -85,7 +85,7 @@ pub(crate) fn counted(word: Word, values: Word) -> Word
 /// The word with the step's member counted too.
 #[inline(always)]
 fn counted_step<'a>(
-    trial: &Trial<'a>,
+    trial: &Trial<'a, '_>,
     evaluator: &mut Evaluator<'a>,
     step: &Step,
     v: Var,
@@ -115,7 +115,7 @@ fn counted_step<'a>(
 /// The word with the members counted that are tested together, with its individuals put for the variable.
 #[inline(always)]
 pub(crate) fn counted_all<'a>(
-    trial: &Trial<'a>,
+    trial: &Trial<'a, '_>,
     evaluator: &mut Evaluator<'a>,
     steps: &[Step],
     v: Var,
@@ -149,7 +149,7 @@ pub(crate) fn counted_all<'a>(
 /// variable is `tail`. Rows of the structure are read off without a call for each individual.
 #[inline(always)]
 pub(crate) fn opened<'a>(
-    trial: &Trial<'a>,
+    trial: &Trial<'a, '_>,
     steps: &[Step],
     v: Var,
     chunk: u32,
@@ -193,6 +193,7 @@ fn opened_by_rows(
     requires last { 64 * last < s.now.size }
     requires long { (length own ≡ 64) × (length tail ≡ 64) }
     requires within { (i : ℕ) → i < 64 → slice_index_or own i No ≢ No → 64 * chunk + i < s.now.size }
+    ensures long { length result ≡ 64 }
     ensures kept { (i : ℕ) → i < 64 → slice_index_or result i No ≢ No
         → slice_index_or result i No ≡ slice_index_or own i No }
     ensures shut { (i : ℕ) → i < 64 → slice_index_or own i No ≢ No → slice_index_or result i No ≡ No

@@ -110,7 +110,7 @@ impl RuleSet {
 
     /// Takes the numbers out of the set, those that are there: it loses no others.
     #[tactic(auto, using(crate::proofs::SetLaws::none_gone))]
-    pub(crate) fn remove_all(&mut self, numbers: &[usize])
+    pub fn remove_all(&mut self, numbers: &[usize])
         requires { All (λ n. n < length self.old) numbers.now }
         ensures { HasFewer (Contains numbers.now) self.old self.new }
     {

@@ -2,7 +2,7 @@
 //! one after the other, and what has to change is noted.
 
 ghost use Rattle.std.specs.Prelude.{◌≡◌, ◌≢◌, ◌<◌, ◌*◌, ◌++◌, [], ◌∷◌, ℕ, All, Contains, IfOk, IsTrue};
-ghost use Rattle.std.specs.Prelude.{MatchBool};
+ghost use Rattle.std.specs.Prelude.{◌≤◌, MatchBool};
 ghost use Rattle.std.specs.Prelude.{Some, ◌↔◌, false, length, slice_get};
 ghost use Rattle.tv_kleene.specs.declared.K3.{K3};
 ghost use Rattle.tv_kleene.specs.declared.K3.TheVariants.{No, Yes};
@@ -14,7 +14,8 @@ ghost use Rattle.tv_rules.specs.EntryForms.{rules_of};
 ghost use Rattle.tv_rules.specs.Kin.{IsKin};
 ghost use Rattle.tv_stable_laws.specs.Laws.{IsPlainRule};
 ghost use Rattle.tv_struct.specs.StructureForm.{arities_of, structure_of};
-ghost use Rattle.tv_coerce.specs.Counting.{CountTells, IsAt, IsIdle, IsWalkStart, Lacks, members_in};
+ghost use Rattle.tv_coerce.specs.Counting.{AreNarrowed, CountTells, IsAt, IsIdle, IsWalkStart, Lacks};
+ghost use Rattle.tv_coerce.specs.Counting.{members_in};
 ghost use Rattle.tv_coerce.specs.Counting.{variables_in};
 ghost use Rattle.tv_coerce.specs.Ready.{CanCoerce, IsRuleOver};
 ghost use Rattle.tv_coerce.specs.Trying.{ArePlaced, CanTry, DifferOnlyAt, IsNotedOf, IsTold, IsTrial};
@@ -23,6 +24,7 @@ ghost use Rattle.tv_coerce.specs.Walks.{AreMet, AreTriedFor, GoesOnIn, IsAny, Is
 
 use crate::change::Need;
 use crate::counting::{Missing, count, lacking};
+use crate::narrow::{going_on, narrow};
 use crate::need::need;
 use crate::noted::{Ask, Noted};
 use crate::places::{counted, counted_all, opened};
@@ -37,7 +39,7 @@ use tv_struct::Structure;
 
 /// A rule, by its number, and the structure that it is tried on, with all that came of the same base rule.
 #[derive(Clone, Copy)]
-pub(crate) struct Trial<'a> {
+pub(crate) struct Trial<'a, 'n> {
     pub structure: &'a Structure,
     pub closed: &'a Closed,
     pub number: usize,
@@ -46,6 +48,9 @@ pub(crate) struct Trial<'a> {
     pub last: Var,
     /// Which individuals it stands for: those from `64 * chunk` on, at most 64.
     pub chunk: u32,
+    /// What was narrowed of each of the variables before the last, by how many of these are left then; empty
+    /// where none was.
+    pub later: &'n [Word],
 }
 
 /// Whether a structure below can be stable under the rules.
@@ -96,7 +101,7 @@ fn settled_by(shape: &Shape, member: usize) -> Option<usize> {
 /// stable, and where one isn't, the rule that denies it asks for that.
 #[inline(never)]
 fn note<'a>(
-    trial: &Trial<'a>,
+    trial: &Trial<'a, '_>,
     evaluator: &mut Evaluator<'a>,
     a: &Assignment,
     noted: &mut Noted,
@@ -128,7 +133,7 @@ fn note<'a>(
 /// out.
 #[inline(never)]
 fn note_all<'a>(
-    trial: &Trial<'a>,
+    trial: &Trial<'a, '_>,
     evaluator: &mut Evaluator<'a>,
     tail: Word,
     a: &mut Assignment,
@@ -167,7 +172,7 @@ fn note_all<'a>(
 
 /// What is tested once all but so many of the variables before the last have individuals.
 #[inline(always)]
-fn level_of<'a>(trial: &Trial<'a>, left: usize) -> &'a Level
+pub(crate) fn level_of<'a>(trial: &Trial<'a, '_>, left: usize) -> &'a Level
     requires { left < length trial.now.shape.now.levels }
     ensures { slice_get trial.now.shape.now.levels left ≡ Some result.now }
 {
@@ -178,7 +183,7 @@ fn level_of<'a>(trial: &Trial<'a>, left: usize) -> &'a Level
 /// word for the last one. What these stand for is changed on the way.
 #[cycle(walk)]
 fn walk<'a>(
-    trial: &Trial<'a>,
+    trial: &Trial<'a, '_>,
     evaluator: &mut Evaluator<'a>,
     rest: &[Var],
     tail: Word,
@@ -222,7 +227,7 @@ fn walk<'a>(
 /// are left.
 #[cycle(walk)]
 fn walk_chunk<'a>(
-    trial: &Trial<'a>,
+    trial: &Trial<'a, '_>,
     evaluator: &mut Evaluator<'a>,
     v: Var,
     rest: &[Var],
@@ -252,7 +257,8 @@ fn walk_chunk<'a>(
     let level = level_of(trial, rest.len());
     let own = counted_all(trial, evaluator, level.own.as_slice(), v, chunk, a, all);
     let steps = level.last.as_slice();
-    let alive = opened(trial, steps, v, chunk, own, tail);
+    let ways = opened(trial, steps, v, chunk, own, tail);
+    let alive = going_on(trial.later, rest.len(), tail, ways);
     let mut from = 0;
     while let Some(i) = alive.first_possible(from) {
         a.set(v, 64 * chunk + i);
@@ -276,7 +282,7 @@ fn walk_chunk<'a>(
 /// Tries the rules with the individuals of the trial's chunk put for their last variable, if the members
 /// without variables, which count so, don't rule that out.
 fn walk_last<'a>(
-    trial: &Trial<'a>,
+    trial: &Trial<'a, '_>,
     evaluator: &mut Evaluator<'a>,
     before: &[Var],
     own: K3,
@@ -291,6 +297,7 @@ fn walk_last<'a>(
     requires variables { variables_in trial.now
         ≡ numbers_of before.now ++ trial.now.last.0 ∷ [] }
     requires chunk { 64 * trial.now.chunk < trial.now.structure.now.size }
+    requires narrowed { AreNarrowed trial.now trial.now.later.now }
     requires own { CountTells
         (Lacks (IsAt (length (numbers_of before.now)) false) trial.now.structure.now (assignment_of a.old)
         (members_in trial.now))
@@ -314,7 +321,7 @@ fn walk_last<'a>(
 
 /// Tries rules without variables.
 fn walk_none<'a>(
-    trial: &Trial<'a>,
+    trial: &Trial<'a, '_>,
     evaluator: &mut Evaluator<'a>,
     a: &Assignment,
     noted: &mut Noted,
@@ -335,9 +342,94 @@ fn walk_none<'a>(
     note(trial, evaluator, a, noted)
 }
 
+/// Rules with so many variables before the last are narrowed first.
+const NARROWED: usize = 4;
+
+/// Whether rules with so many variables before the last are narrowed over so many individuals: words of 64
+/// are.
+#[inline(always)]
+fn is_narrowed(before: usize, size: u32) -> bool
+    ensures { IsTrue result → (before ≤ 32) × (size ≤ 64) }
+{
+    NARROWED <= before && before <= 32 && size <= 64
+}
+
+/// Tries rules whose variables are those before and the last, if the members without variables, which count
+/// so, don't rule that out.
+#[inline(always)]
+fn walk_chunks<'a>(
+    trial: &Trial<'a, '_>,
+    evaluator: &mut Evaluator<'a>,
+    before: &[Var],
+    own: K3,
+    a: &mut Assignment,
+    noted: &mut Noted,
+) -> Result<Outcome, AllocError>
+    requires trial { IsTrial trial.now }
+    requires bound { IsBound evaluator.old }
+    requires structure { bound_structure evaluator.old ≡ trial.now.structure.now }
+    requires ready { CanCoerce (rules_of trial.now.closed.now) trial.now.structure.now
+        (bound_room evaluator.old) }
+    requires variables { variables_in trial.now
+        ≡ numbers_of before.now ++ trial.now.last.0 ∷ [] }
+    requires narrowed { AreNarrowed trial.now trial.now.later.now }
+    requires own { CountTells
+        (Lacks (IsAt (length (numbers_of before.now)) false) trial.now.structure.now (assignment_of a.old)
+        (members_in trial.now))
+        (IsIdle (IsAt (length (numbers_of before.now)) false) trial.now.structure.now (assignment_of a.old)
+        (members_in trial.now)) own }
+    requires some { own ≢ No }
+    ensures told { IfOk result (IsTold trial.now (AreTriedFor trial.now IsAny) noted.old noted.new) }
+    ensures stays { StaysBound trial.now.structure.now evaluator.old evaluator.new }
+{
+    for chunk in 0..chunks(trial.structure.size()) {
+        let here = Trial { chunk, ..*trial };
+        match walk_last(&here, evaluator, before, own, a, noted)? {
+            Outcome::Possible => {}
+            Outcome::Impossible => return Ok(Outcome::Impossible),
+        }
+    }
+    Ok(Outcome::Possible)
+}
+
+/// The same, where the variables before the last are narrowed first, as far as words of 64 individuals do.
+#[inline(never)]
+fn walk_narrowed<'a>(
+    trial: &Trial<'a, '_>,
+    evaluator: &mut Evaluator<'a>,
+    before: &[Var],
+    own: K3,
+    a: &mut Assignment,
+    noted: &mut Noted,
+) -> Result<Outcome, AllocError>
+    requires trial { IsTrial trial.now }
+    requires bound { IsBound evaluator.old }
+    requires structure { bound_structure evaluator.old ≡ trial.now.structure.now }
+    requires ready { CanCoerce (rules_of trial.now.closed.now) trial.now.structure.now
+        (bound_room evaluator.old) }
+    requires variables { variables_in trial.now
+        ≡ numbers_of before.now ++ trial.now.last.0 ∷ [] }
+    requires few { (length before.now ≤ 32) × (trial.now.structure.now.size ≤ 64) }
+    requires own { CountTells
+        (Lacks (IsAt (length (numbers_of before.now)) false) trial.now.structure.now (assignment_of a.old)
+        (members_in trial.now))
+        (IsIdle (IsAt (length (numbers_of before.now)) false) trial.now.structure.now (assignment_of a.old)
+        (members_in trial.now)) own }
+    requires some { own ≢ No }
+    ensures told { IfOk result (IsTold trial.now (AreTriedFor trial.now IsAny) noted.old noted.new) }
+    ensures stays { StaysBound trial.now.structure.now evaluator.old evaluator.new }
+{
+    let words = narrow(trial, before);
+    let narrowed = Trial {
+        later: words.as_slice(),
+        ..*trial
+    };
+    walk_chunks(&narrowed, evaluator, before, own, a, noted)
+}
+
 /// Tries rules whose variables are those before and `last`.
 fn walk_some<'a>(
-    trial: &Trial<'a>,
+    trial: &Trial<'a, '_>,
     evaluator: &mut Evaluator<'a>,
     before: &[Var],
     last: Var,
@@ -350,6 +442,7 @@ fn walk_some<'a>(
     requires ready { CanCoerce (rules_of trial.now.closed.now) trial.now.structure.now
         (bound_room evaluator.old) }
     requires variables { variables_in trial.now ≡ numbers_of before.now ++ last.0 ∷ [] }
+    requires narrowed { AreNarrowed trial.now trial.now.later.now }
     ensures told { IfOk result (IsTold trial.now (AreTriedFor trial.now IsAny) noted.old noted.new) }
     ensures stays { StaysBound trial.now.structure.now evaluator.old evaluator.new }
 {
@@ -358,23 +451,16 @@ fn walk_some<'a>(
     if is_no(own) {
         return Ok(Outcome::Possible);
     }
-    for chunk in 0..chunks(trial.structure.size()) {
-        let here = Trial {
-            last,
-            chunk,
-            ..*trial
-        };
-        match walk_last(&here, evaluator, before, own, a, noted)? {
-            Outcome::Possible => {}
-            Outcome::Impossible => return Ok(Outcome::Impossible),
-        }
+    let here = Trial { last, ..*trial };
+    if is_narrowed(before.len(), trial.structure.size()) {
+        return walk_narrowed(&here, evaluator, before, own, a, noted);
     }
-    Ok(Outcome::Possible)
+    walk_chunks(&here, evaluator, before, own, a, noted)
 }
 
 /// Tries the rules under each assignment of their variables. What these stand for is changed on the way.
 pub(crate) fn walk_all<'a>(
-    trial: &Trial<'a>,
+    trial: &Trial<'a, '_>,
     evaluator: &mut Evaluator<'a>,
     a: &mut Assignment,
     noted: &mut Noted,
@@ -384,6 +470,7 @@ pub(crate) fn walk_all<'a>(
     requires structure { bound_structure evaluator.old ≡ trial.now.structure.now }
     requires ready { CanCoerce (rules_of trial.now.closed.now) trial.now.structure.now
         (bound_room evaluator.old) }
+    requires narrowed { AreNarrowed trial.now trial.now.later.now }
     ensures told { IfOk result (IsTold trial.now (AreTriedFor trial.now IsAny) noted.old noted.new) }
     ensures stays { StaysBound trial.now.structure.now evaluator.old evaluator.new }
 {

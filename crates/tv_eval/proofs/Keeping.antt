@@ -1,6 +1,6 @@
 -- A closure whose body has no free variables but its own two has the same values under every assignment.
-use Rattle.std.proofs.Common.{ℕ, ◌≡◌, ◌≢◌, ◌<◌, ◌+◌, ◌⊎◌, inl, inr, ⊎_elim, zero, suc, List, [], ◌∷◌, length}
-use Rattle.std.proofs.Common.{set, get_or, Some, refl, sym, ap, subst, arith, ◌∙◌, eqb, eq-eqb, ne_eqb}
+use Rattle.std.proofs.Common.{ℕ, ◌≡◌, ◌≢◌, ◌<◌, ◌+◌, ◌⊎◌, inl, inr, ⊎_elim, List, [], length}
+use Rattle.std.proofs.Common.{set, get_or, Some, sym, ap, subst, arith, ◌∙◌, eqb, eq-eqb, ne_eqb}
 use Rattle.std.specs.Prelude.{slice_get, unwrap_or, Option, None, IfSome}
 use mathlib.Core.Path.{fun_ext}
 use Rattle.tv_model.proofs.Assignments.{put-same, put-other}

@@ -4,6 +4,7 @@ pub mod Capping
 pub mod Covers
 pub mod FreeBelow
 pub mod Keeping
+pub mod Linked
 pub mod Loops
 pub mod Parts
 pub mod Programs

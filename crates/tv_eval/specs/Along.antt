@@ -1,8 +1,7 @@
 -- The values of a formula for all individuals that one variable may stand for.
-use Rattle.std.specs.Prelude.{ℕ, ◌≡◌, ◌+◌, ◌*◌, ◌<◌, List, length, map, slice_index_or}
+use Rattle.std.specs.Prelude.{ℕ, List, map}
 use Rattle.std.specs.List.{range_with_len}
 use Rattle.tv_kleene.specs.declared.K3.{K3}
-use Rattle.tv_kleene.specs.declared.K3.TheVariants.{No}
 use Rattle.tv_model.specs.Form.{Form}
 use Rattle.tv_model.specs.Truth.{Assignment, put}
 use Rattle.tv_struct.specs.StructureForm.{StructureForm, structure_of}

@@ -7,6 +7,7 @@ pub mod Formulas
 pub mod HoldsClosure
 pub mod Keeps
 pub mod Laws
+pub mod Linked
 pub use Rattle.tv_quantifiers.specs.Heights
 pub use Rattle.tv_quantifiers.specs.Quantified
 pub use Rattle.tv_quantifiers.specs.Runs

@@ -1,7 +1,8 @@
 //! What depends on the structure alone: a closure is closed when it is first met, and read from then on; so
 //! are values of quantified formulas that took long.
 
-ghost use Rattle.std.specs.Prelude.{ℕ, ◌≡◌, ◌≢◌, ◌<◌, ◌+◌, ◌↔◌, List, [], length, IsTrue, IfSome, IfNone};
+ghost use Rattle.std.specs.Prelude.{ℕ, ◌≡◌, ◌≢◌, ◌<◌, ◌+◌, ◌↔◌, ◌⊎◌, List, [], length, IsTrue, IfSome};
+ghost use Rattle.std.specs.Prelude.{IfNone};
 ghost use Rattle.std.specs.Prelude.{Some, min, slice_index_or, slice_set, unwrap_or};
 ghost use Rattle.tv_kleene.specs.declared.K3.{K3};
 ghost use Rattle.tv_model.specs.Form.{form_of, IsFree};
@@ -15,7 +16,7 @@ ghost use Rattle.tv_eval.specs.Keeps.{HoldsClosures, StandsAt, HasOnlyOwn, HasPl
 
 use std::mem;
 use tv_kleene::K3;
-use tv_model::Formula;
+use tv_model::{Formula, Terms, Var};
 use tv_quantifiers::{Edges, Parts, Relation, are_same, has_outer, lone};
 
 /// How many closures are kept, at most.
@@ -163,11 +164,32 @@ fn stands_at(closures: &mut [Option<Edges<'_>>], k: usize, edges: Edges<'_>) -> 
     }
 }
 
+/// Whether the variable is one of the closure's own two.
+fn is_own(edges: Edges<'_>, v: Var) -> bool
+    ensures { IsTrue result → (v.0 ≡ edges.entry.left.0) ⊎ (v.0 ≡ edges.entry.right.0) }
+{
+    v.0 == edges.left.0 || v.0 == edges.right.0
+}
+
+/// Whether the body is an atom of the closure's own variables, as in most texts.
+fn is_own_atom(edges: Edges<'_>) -> bool
+    ensures { IsTrue result
+        → HasOnlyOwn edges.entry.left.0 edges.entry.right.0 (form_of edges.entry.body.now) }
+{
+    match edges.body {
+        Formula::Atom(_, Terms::Two(x, y)) => is_own(edges, *x) && is_own(edges, *y),
+        _ => false,
+    }
+}
+
 /// Whether no variable but the closure's own two stands free in its body.
 fn is_closed(edges: Edges<'_>) -> bool
     ensures { IsTrue result
         ↔ HasOnlyOwn edges.entry.left.0 edges.entry.right.0 (form_of edges.entry.body.now) }
 {
+    if is_own_atom(edges) {
+        return true;
+    }
     for v in 0..32 {
         if has_outer(edges, v) {
             return false;

@@ -1,6 +1,9 @@
 //! The value of a formula, part by part.
 
-ghost use Rattle.std.specs.Prelude.{ℕ, ◌≡◌, ◌≢◌, ◌<◌, ◌≤◌, ◌+◌, ◌*◌, length};
+ghost use Rattle.std.specs.Prelude.{ℕ, ◌≡◌, ◌≢◌, ◌<◌, ◌≤◌, ◌+◌, ◌*◌, ◌∷◌, length, false, slice_index_or};
+ghost use Rattle.std.specs.List.{range_with_len};
+ghost use Rattle.tv_kleene.specs.declared.K3.{K3};
+ghost use Rattle.tv_kleene.specs.Kleene.{smaller_of};
 ghost use Rattle.tv_model.specs.Form.{form_of, FNot, FAnd, FOr, FIff, FCond, FExists, FClosure};
 ghost use Rattle.tv_model.specs.Form.{IsFree};
 ghost use Rattle.tv_model.specs.Truth.{put};
@@ -8,6 +11,9 @@ ghost use Rattle.tv_row.specs.Places.{entry_in};
 ghost use Rattle.tv_struct.specs.StructureForm.{structure_of};
 ghost use Rattle.tv_eval_laws.specs.Value.{value};
 ghost use Rattle.tv_eval.specs.Along.{IsWordAlong, IsWordOf, closed_values, values_along};
+ghost use Rattle.tv_eval.specs.Linked.{CanTake, rest_along};
+ghost use Rattle.tv_quantifiers.specs.Chains.{AreLinked, across, best, is_taken, least_part, parts_of};
+ghost use Rattle.tv_quantifiers.specs.Runs.{AreFresh, under_run};
 ghost use Rattle.tv_eval.specs.AssignmentForm.{assignment_of};
 ghost use Rattle.tv_eval.specs.CanEvaluate.{CanEvaluate};
 ghost use Rattle.tv_eval.specs.Formulas.{HasRooms, nesting, sizes_of};
@@ -27,8 +33,8 @@ use crate::leaves::{atom, is_new, same};
 use tv_kleene::K3;
 use tv_model::{Formula, Var, free};
 use tv_quantifiers::{
-    Edges, Part, Quantifier, Relation, Variables, advance, begins_long_run, has_few, has_outer,
-    is_slower, opened,
+    Edges, Level, Link, Part, Quantifier, Relation, Shape, Variables, advance, are_linked,
+    begins_long_run, has_few, has_outer, is_slower, opened, sign_of, split,
 };
 use tv_row::{Row, Word};
 use tv_struct::Structure;
@@ -248,8 +254,7 @@ fn quantify_anew<'f>(
     q.turned(found)
 }
 
-/// The same, where many quantifiers stand one in the other: without recursion, one list of individuals after
-/// the other.
+/// The same, where many quantifiers stand one in the other: without recursion.
 #[cycle(values)]
 #[inline(never)]
 fn run<'f>(
@@ -271,11 +276,215 @@ fn run<'f>(
     ensures kept { HoldsClosures s.now kept.new shared.new }
 {
     let (mut levels, part) = opened(q, v, body);
+    let sign = sign_of(part);
+    let chain = levels.as_slice();
+    if chain.len() > 0 && are_linked(part, sign, chain) {
+        return link_by_link(part, sign, chain, s, a, rooms, kept, shared);
+    }
+    one_by_one(part, levels.as_mut_slice(), s, a, rooms, kept, shared)
+}
+
+/// The value of the run over the formula: one list of individuals after the other.
+#[cycle(values)]
+#[inline(never)]
+fn one_by_one<'f>(
+    part: &'f Formula,
+    levels: &mut [Level],
+    s: &Structure,
+    a: &Assignment,
+    rooms: &mut [Relation],
+    kept: &mut Kept<'f>,
+    shared: &mut [Relation],
+) -> K3
+    requires parts { CanEvaluate s.now a.now (sizes_of rooms.old) (under_run levels.old (form_of part.now)) }
+    requires some { 0 < s.now.size }
+    requires fresh { AreFresh levels.old }
+    requires kept { HoldsClosures s.now kept.old shared.old }
+    ensures exact { result
+        ≡ value (structure_of s.now) (assignment_of a.now) (under_run levels.old (form_of part.now)) }
+    ensures rooms { sizes_of rooms.new ≡ sizes_of rooms.old }
+    ensures kept { HoldsClosures s.now kept.new shared.new }
+{
     loop {
-        let here = a.at_hand(levels.as_slice());
+        let here = a.at_hand(levels);
         let value = value_of(part, s, &here, rooms, kept, shared);
-        if let Some(whole) = advance(levels.as_mut_slice(), value, s.size()) {
+        if let Some(whole) = advance(levels, value, s.size()) {
             return whole;
+        }
+    }
+}
+
+/// The value of the run over the formula, whose parts hang together like a chain: from the innermost
+/// quantifier outwards, a row of values after the other.
+#[cycle(values)]
+#[inline(never)]
+fn link_by_link<'f>(
+    part: &'f Formula,
+    sign: Quantifier,
+    levels: &[Level],
+    s: &Structure,
+    a: &Assignment,
+    rooms: &mut [Relation],
+    kept: &mut Kept<'f>,
+    shared: &mut [Relation],
+) -> K3
+    requires parts { CanEvaluate s.now a.now (sizes_of rooms.old) (under_run levels.now (form_of part.now)) }
+    requires some { 0 < s.now.size }
+    requires levels { 0 < length levels.now }
+    requires linked { AreLinked levels.now (parts_of sign (form_of part.now)) }
+    requires kept { HoldsClosures s.now kept.old shared.old }
+    ensures exact { result
+        ≡ value (structure_of s.now) (assignment_of a.now) (under_run levels.now (form_of part.now)) }
+    ensures rooms { sizes_of rooms.new ≡ sizes_of rooms.old }
+    ensures kept { HoldsClosures s.now kept.new shared.new }
+{
+    let mut row = Row::of(s.size(), K3::Yes);
+    let mut k = levels.len() - 1;
+    while k > 0 {
+        let outer = Link::at(levels, k - 1).level;
+        let link = Link::at(levels, k);
+        row = linked_row(part, sign, outer, link, &row, s, a, rooms, kept, shared);
+        k -= 1;
+    }
+    let first = Link::at(levels, 0);
+    sign.turned(linked_value(part, sign, first, &row, s, a, rooms, kept, shared))
+}
+
+/// The values of what is left of a run behind `outer`, for all individuals, put for its variable: `row` has
+/// those of what is left behind the link.
+#[cycle(values)]
+#[inline(never)]
+fn linked_row<'f>(
+    part: &'f Formula,
+    sign: Quantifier,
+    outer: Level,
+    link: Link<'_>,
+    row: &Row,
+    s: &Structure,
+    a: &Assignment,
+    rooms: &mut [Relation],
+    kept: &mut Kept<'f>,
+    shared: &mut [Relation],
+) -> Row
+    requires parts { CanTake s.now a.now (sizes_of rooms.old)
+        (is_taken link.is_first link.level.var.0 link.inner.now)
+        (λ f. FExists outer.var.0 (FExists link.level.var.0 f)) (parts_of sign (form_of part.now)) }
+    requires var { outer.var.0 < 32 }
+    requires inner { link.is_first ≡ false }
+    requires linked { AreLinked (outer ∷ link.level ∷ link.inner.now) (parts_of sign (form_of part.now)) }
+    requires row { row.now ≡ rest_along s.now (assignment_of a.now) sign link.level.var.0 link.inner.now
+        (parts_of sign (form_of part.now)) }
+    requires kept { HoldsClosures s.now kept.old shared.old }
+    ensures exact { result ≡ rest_along s.now (assignment_of a.now) sign outer.var.0
+        (link.entry.level ∷ link.entry.inner.now) (parts_of sign (form_of part.now)) }
+    ensures rooms { sizes_of rooms.new ≡ sizes_of rooms.old }
+    ensures kept { HoldsClosures s.now kept.new shared.new }
+{
+    let mut values = Row::of(s.size(), K3::No);
+    let mut here = *a;
+    for u in 0..s.size() {
+        here.set(outer.var, u);
+        let value = linked_value(part, sign, link, row, s, &here, rooms, kept, shared);
+        values.set(u, value);
+    }
+    values
+}
+
+/// The value of the link's quantifier over the parts that stand at it, each with the row's value.
+#[cycle(values)]
+fn linked_value<'f>(
+    part: &'f Formula,
+    sign: Quantifier,
+    link: Link<'_>,
+    row: &Row,
+    s: &Structure,
+    a: &Assignment,
+    rooms: &mut [Relation],
+    kept: &mut Kept<'f>,
+    shared: &mut [Relation],
+) -> K3
+    requires parts { CanTake s.now a.now (sizes_of rooms.old)
+        (is_taken link.is_first link.level.var.0 link.inner.now) (λ f. FExists link.level.var.0 f)
+        (parts_of sign (form_of part.now)) }
+    requires row { length row.now ≡ s.now.size }
+    requires kept { HoldsClosures s.now kept.old shared.old }
+    ensures exact { result ≡ best (across sign link.entry.level.quantifier) (λ u. smaller_of
+        (least_part (is_taken link.entry.is_first link.entry.level.var.0 link.entry.inner.now)
+        (structure_of s.now)
+        (put (assignment_of a.now) link.entry.level.var.0 u) (parts_of sign (form_of part.now)))
+        (slice_index_or row.now u No)) (range_with_len 0 s.now.size) }
+    ensures rooms { sizes_of rooms.new ≡ sizes_of rooms.old }
+    ensures kept { HoldsClosures s.now kept.new shared.new }
+{
+    let q = link.level.quantifier.across(sign);
+    let mut most = K3::No;
+    for chunk in 0..chunks(s.size()) {
+        let behind = row.word(chunk);
+        let word = linked_word(part, sign, link, chunk, behind, s, a, rooms, kept, shared);
+        let turned = q.turned_word(word, places(s.size(), chunk));
+        most = most.or(turned.greatest());
+        if most == K3::Yes {
+            return q.turned(most);
+        }
+    }
+    q.turned(most)
+}
+
+/// The least values of the word and of those parts of the formula that stand at the link.
+#[cycle(values)]
+fn linked_word<'f>(
+    f: &'f Formula,
+    sign: Quantifier,
+    link: Link<'_>,
+    chunk: u32,
+    word: Word,
+    s: &Structure,
+    a: &Assignment,
+    rooms: &mut [Relation],
+    kept: &mut Kept<'f>,
+    shared: &mut [Relation],
+) -> Word
+    requires parts { CanTake s.now a.now (sizes_of rooms.old)
+        (is_taken link.is_first link.level.var.0 link.inner.now) (λ f. FExists link.level.var.0 f)
+        (parts_of sign (form_of f.now)) }
+    requires chunk { 64 * chunk < s.now.size }
+    requires kept { HoldsClosures s.now kept.old shared.old }
+    ensures exact { (g : ℕ → K3) → IsWordOf s.now.size chunk g word
+        → IsWordOf s.now.size chunk (λ u. smaller_of
+        (least_part (is_taken link.entry.is_first link.entry.level.var.0 link.entry.inner.now)
+        (structure_of s.now)
+        (put (assignment_of a.now) link.entry.level.var.0 u) (parts_of sign (form_of f.now))) (g u)) result }
+    ensures rooms { sizes_of rooms.new ≡ sizes_of rooms.old }
+    ensures kept { HoldsClosures s.now kept.new shared.new }
+{
+    if word.greatest() == K3::No {
+        return word;
+    }
+    match split(sign, f) {
+        Shape::Two(g, h) => {
+            let first = linked_word(g, sign, link, chunk, word, s, a, rooms, kept, shared);
+            linked_word(h, sign, link, chunk, first, s, a, rooms, kept, shared)
+        }
+        Shape::Negated(g) => {
+            linked_word(
+                g,
+                sign.other(),
+                link,
+                chunk,
+                word,
+                s,
+                a,
+                rooms,
+                kept,
+                shared,
+            )
+        }
+        Shape::Whole => {
+            if !link.takes(f) {
+                return word;
+            }
+            let values = word_of(f, link.level.var, chunk, s, a, rooms, kept, shared);
+            sign.turned_word(values, places(s.size(), chunk)).and(word)
         }
     }
 }

@@ -1,7 +1,10 @@
 pub mod Deepest
 pub mod Filled
+pub mod FreeTests
 pub mod Keeping
+pub mod Linking
 pub mod Opening
+pub mod Pushing
 pub mod Quantifying
 pub mod RowLaws
 pub mod Running

@@ -1,9 +1,9 @@
 -- Opening a run: a quantifier whose variable isn't free under it is passed over.
-use Rattle.std.proofs.Common.{ℕ, ◌≡◌, ◌≢◌, ◌+◌, List, [], ◌∷◌, ◌++◌, refl, ap, sym, subst, ◌∙◌}
+use Rattle.std.proofs.Common.{ℕ, ◌≡◌, ◌≢◌, List, [], ◌∷◌, ◌++◌, refl, ap, sym, subst, ◌∙◌}
 use Rattle.tv_kleene.specs.declared.K3.{K3}
 use Rattle.tv_kleene.specs.declared.K3.TheVariants.{No, Half, Yes}
 use Rattle.tv_kleene.specs.Kleene.{larger_of, smaller_of}
-use Rattle.tv_model.specs.Form.{Form, IsFree, FExists, FForall}
+use Rattle.tv_model.specs.Form.{Form, IsFree}
 use Rattle.tv_model.specs.Truth.{Assignment, put}
 use Rattle.tv_model.specs.Valid.{IsFormulaOver, IsVariable}
 use Rattle.tv_model.proofs.Assignments.{put-other}
@@ -13,7 +13,7 @@ use Rattle.tv_eval_laws.proofs.Agreed.{only_free_variables_matter}
 use Rattle.tv_quantifiers.specs.declared.runs.Level.{Level}
 use Rattle.tv_quantifiers.specs.declared.quantifier.Quantifier.{Quantifier}
 use Rattle.tv_quantifiers.specs.declared.quantifier.Quantifier.TheVariants.{Exists, Forall}
-use Rattle.tv_quantifiers.specs.Quantified.{quantified, turned}
+use Rattle.tv_quantifiers.specs.Quantified.{quantified}
 use Rattle.tv_quantifiers.specs.Runs.{AreFresh, IsOpened, under_run, nesting}
 
 under-last : (ls : List Level) (l : Level) (f : Form)

@@ -29,7 +29,7 @@ dual Half Half = refl
 dual Half Yes = refl
 dual Yes y = refl
 
-greatest-negated : (g : ℕ → K3) (us : List ℕ) → negation_of (greatest_of (λ u. negation_of (g u)) us) ≡ least_of g us
+pub greatest-negated : (g : ℕ → K3) (us : List ℕ) → negation_of (greatest_of (λ u. negation_of (g u)) us) ≡ least_of g us
 greatest-negated g [] = refl
 greatest-negated g (u ∷ us) =
     dual (g u) (greatest_of (λ w. negation_of (g w)) us) ∙ ap (smaller_of (g u)) (greatest-negated g us)

@@ -1,3 +1,4 @@
+pub mod Chains
 pub mod Heights
 pub mod Parts
 pub mod Quantified

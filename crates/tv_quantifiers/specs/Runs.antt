@@ -1,12 +1,12 @@
 -- Runs of quantifiers one in the other, gone through like an odometer: each variable stands for an
 -- individual, and the innermost one is the first to move on.
-use Rattle.std.specs.Prelude.{ℕ, ◌≡◌, ◌≤◌, ◌<◌, ◌+◌, ◌-◌, ◌*◌, List, [], ◌∷◌, length, max}
+use Rattle.std.specs.Prelude.{ℕ, ◌≡◌, ◌<◌, ◌+◌, ◌-◌, ◌*◌, List, [], ◌∷◌, max}
 use Rattle.std.specs.List.{range_with_len}
 use Rattle.tv_kleene.specs.declared.K3.{K3}
 use Rattle.tv_kleene.specs.declared.K3.TheVariants.{No}
 use Rattle.tv_kleene.specs.Kleene.{larger_of}
 use Rattle.tv_model.specs.Form.{Form, FZero, FOne, FAtom, FIsNew, FSame, FNot, FAnd, FOr, FIff, FCond}
-use Rattle.tv_model.specs.Form.{FExists, FForall, FClosure, IsFree, height}
+use Rattle.tv_model.specs.Form.{FExists, FForall, FClosure, IsFree}
 use Rattle.tv_model.specs.Truth.{Assignment, put}
 use Rattle.tv_model.specs.Valid.{IsFormulaOver, IsVariable}
 use Rattle.tv_embedding_laws.specs.LogicalStructure.{LogicalStructure}

@@ -36,7 +36,8 @@ pub fn are_same(one: Edges<'_>, other: Edges<'_>) -> bool
     one.left.0 == other.left.0 && one.right.0 == other.right.0 && is_same(one.body, other.body)
 }
 
-pub(crate) fn is_same(f: &Formula, g: &Formula) -> bool
+/// Whether the formulas are the same, names of variables and all.
+pub fn is_same(f: &Formula, g: &Formula) -> bool
     ensures { IsTrue result ↔ (form_of f.now ≡ form_of g.now) }
 {
     match (f, g) {

@@ -1,6 +1,7 @@
 //! Quantifiers, runs of them, and questions about formulas that their evaluation asks.
 #![tactic(auto)]
 
+mod chains;
 mod edges;
 mod height;
 mod order;
@@ -10,7 +11,8 @@ mod relation;
 mod runs;
 mod variables;
 
-pub use edges::{Edges, are_same, has_outer};
+pub use chains::{Link, Shape, are_linked, sign_of, split};
+pub use edges::{Edges, are_same, has_outer, is_same};
 pub use height::program_height;
 pub use order::{has_few, is_slower};
 pub use parts::{Parts, lone};

@@ -4,6 +4,7 @@ ghost use Rattle.std.specs.Prelude.{◌≡◌, ◌≤◌, map};
 ghost use Rattle.tv_kleene.specs.declared.K3.{K3};
 ghost use Rattle.tv_kleene.specs.Kleene.{negation_of};
 ghost use Rattle.tv_row.specs.Bits.{padded};
+ghost use Rattle.tv_quantifiers.specs.Chains.{across, other};
 ghost use Rattle.tv_quantifiers.specs.Quantified.{turned};
 
 use tv_kleene::K3;
@@ -22,11 +23,22 @@ impl Quantifier {
     /// The other one.
     #[inline(always)]
     pub fn other(self) -> Quantifier
-        ensures { (k : K3) → turned result k ≡ turned self (negation_of k) }
+        ensures turned { (k : K3) → turned result k ≡ turned self (negation_of k) }
+        ensures other { result ≡ other self }
     {
         match self {
             Quantifier::Exists => Quantifier::Forall,
             Quantifier::Forall => Quantifier::Exists,
+        }
+    }
+
+    /// This quantifier, the other one for "for all": it passes a negation so.
+    pub fn across(self, sign: Quantifier) -> Quantifier
+        ensures { result ≡ across sign self }
+    {
+        match sign {
+            Quantifier::Exists => self,
+            Quantifier::Forall => self.other(),
         }
     }
 

@@ -152,11 +152,11 @@ impl Relation {
         ensures square { IsSquare size self.new }
         ensures size { length self.new ≡ length self.old }
     {
-        let row = self.row(u);
-        let k = row.get(stop);
+        let k = self.get(u, stop);
         if k == K3::No {
             return;
         }
+        let row = self.row(u);
         let past = self.row(stop).capped(k);
         self.put_row(u, &row.or(&past));
     }

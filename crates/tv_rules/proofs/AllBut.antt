@@ -12,7 +12,7 @@ module _ {X : Type 0} where
   place-of : (xs : List X) (f : X) → Contains xs f → (k : ℕ) × (slice_get xs k ≡ Some f)
   place-of xs f there = (there.0, slice_get-get_or xs there.0 f there.1 ∙ ap Some there.2)
 
-  contains-at : (xs : List X) (k : ℕ) (f : X) → slice_get xs k ≡ Some f → Contains xs f
+  pub contains-at : (xs : List X) (k : ℕ) (f : X) → slice_get xs k ≡ Some f → Contains xs f
   contains-at xs k f at = (k, slice_get_within xs k f at, get_or_from_slice_get xs k f f at)
 
   pub behind-all : (xs : List X) (x : X) → slice_get (xs ++ x ∷ []) (length xs) ≡ Some x

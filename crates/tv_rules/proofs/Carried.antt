@@ -34,7 +34,7 @@ All-last P [] ys all = all
 All-last P (x ∷ xs) ys all = All-last P xs ys (All-tail P x (xs ++ ys) all)
 
 -- what goes from parts to conjunctions comes from the conjuncts
-from-conjuncts : (P : Form → Type 0) → ((f g : Form) → P f → P g → P (FAnd f g)) → (f : Form) → All P (conjuncts f) → P f
+pub from-conjuncts : (P : Form → Type 0) → ((f g : Form) → P f → P g → P (FAnd f g)) → (f : Form) → All P (conjuncts f) → P f
 from-conjuncts P both (FAnd f g) all =
     both f g (from-conjuncts P both f (All-first P (conjuncts f) (conjuncts g) all))
     (from-conjuncts P both g (All-last P (conjuncts f) (conjuncts g) all))

@@ -178,7 +178,7 @@ literal-denied (FForall v f) head e = signed-denied (FForall v f) false head e
 literal-denied (FClosure from to left right f) head e = signed-denied (FClosure from to left right f) false head e
 
 -- all conjuncts of a base rule and its negated head, but the one that a rule of its family denies
-but-about : (o : Option ℕ) (base rule : RuleForm) → IsRuleAbout o base rule
+pub but-about : (o : Option ℕ) (base rule : RuleForm) → IsRuleAbout o base rule
     → IsAllBut (conjuncts base.body ++ negated_head base.head ∷ []) (unwrap_or o (length (conjuncts base.body))) rule
 but-about None base rule is =
     let fs : List Form = conjuncts base.body

@@ -4,16 +4,18 @@ use Rattle.std.proofs.Common.{None, Some, Contains}
 use Rattle.std.proofs.Common.{slice_get, unwrap_or, get_or, refl, sym, ap, subst, arith}
 use Rattle.std.specs.Prelude.{slice_index_or}
 use Rattle.std.specs.Option.{option_map}
-use Rattle.std.proofs.lemmas.Option.{slice_get-get_or, slice_get-map, same_Some}
+use Rattle.std.proofs.lemmas.List.{length-map}
+use Rattle.std.proofs.lemmas.Option.{slice_get-get_or, slice_get-map, slice_get_within, same_Some}
 use Rattle.tv_model.proofs.Lists.{slice_get-none}
 use Rattle.tv_model.specs.declared.program.Rule.{Rule}
-use Rattle.tv_model.specs.Program.{RuleForm, rule_of}
+use Rattle.tv_model.specs.Program.{KindForm, RuleForm, rule_of}
 use Rattle.tv_coerce_members.specs.Members.{IsLaidOut}
 use Rattle.tv_coerce_members.specs.declared.shapes.Shape.{Shape}
 use Rattle.tv_coerce_moves.specs.Movers.{MoverLists}
 use Rattle.tv_rules.specs.declared.entries.Entry.{Entry}
-use Rattle.tv_rules.specs.Closing.{conjuncts}
+use Rattle.tv_rules.specs.Closing.{conjuncts, definition_rules, dropped_rule}
 use Rattle.tv_rules.specs.Decoded.{IsEntry}
+use Rattle.tv_rules.specs.Defining.{IsOfDefinition}
 use Rattle.tv_rules.specs.EntryForms.{EntryForm, closed_entries, entry_of, rules_of}
 use Rattle.tv_rules.specs.Kept.{AreRuleLists}
 use Rattle.tv_rules.specs.Kin.{IsKin, IsTriedBy, base_in, base_of, conjunct_count, skip_in, skip_of}
@@ -70,6 +72,31 @@ module _ (bases : List Rule) (shapes : List Shape) (entries : List Entry)
         free = variables-are bases shapes entries by_pred by_sm is n rule own.0 shape rule-there own.1 here;
         but = (waits-are bases shapes entries by_pred by_sm is n rule own.0 shape (skip_of rules n) rule-there own.1 here skips).0;
       }
+
+  -- a rule's base rule is there
+  pub base-there : (n : ℕ) (e : Entry) → n < length (rules_of rules) → slice_get entries n ≡ Some e
+      → (base : RuleForm) × (slice_get (map rule_of bases) e.base ≡ Some base)
+  base-there n e below at =
+      let rule : (r : RuleForm) × (slice_get (rules_of bases) n ≡ Some r)
+      = some-at (rules_of bases) n (subst (λ rs. n < length (rules_of rs)) (sym view) below)
+      in let entry : IsEntry (map rule_of bases) rule.0 (entry_of e) = entry-is bases shapes entries by_pred by_sm is n rule.0 e rule.1 at
+      in (entry.base, entry.there)
+
+  pub base-below : (n : ℕ) (e : Entry) → n < length (rules_of rules) → slice_get entries n ≡ Some e → e.base < length bases
+  base-below n e below at =
+      let base : (b : RuleForm) × (slice_get (map rule_of bases) e.base ≡ Some b) = base-there n e below at
+      in omega (arith, slice_get_within (map rule_of bases) e.base base.0 base.1, length-map bases rule_of)
+
+  pub of-definition : (q : ℕ) (kind : KindForm) (n : ℕ) (e : Entry) → n < length (rules_of rules) → slice_get entries n ≡ Some e
+      → (base : Rule) → slice_get bases e.base ≡ Some base
+      → Contains (map dropped_rule (definition_rules q kind)) (rule_of base) → IsOfDefinition rules q kind n
+  of-definition q kind n e below at base there of = record {
+    within = below;
+    base = rule_of base;
+    there = ap (slice_get (map rule_of rules)) (base-is-of n e at) ∙ slice_get-map rule_of rules e.base
+        ∙ ap (option_map rule_of) (ap (λ rs. slice_get rs e.base) (sym view) ∙ there);
+    of = of;
+  }
 
 -- ---- a list is gone through
 

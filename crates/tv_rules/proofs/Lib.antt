@@ -1,5 +1,6 @@
 -- The library of lemmas on closed rules, for the crates above.
 pub mod Carried
+pub mod DefinedValues
 pub mod Family
 pub mod Heights
 pub mod MetByHeaps

@@ -1,5 +1,6 @@
 pub mod Closing
 pub mod Decoded
+pub mod Defining
 pub mod EntryForms
 pub mod Flags
 pub mod Kept

@@ -4,14 +4,15 @@ ghost use Rattle.std.specs.Prelude.{ℕ, List, [], unwrap_or, ◌≡◌, ◌<◌
 ghost use Rattle.std.specs.Prelude.{map, ◌≢◌, MatchOption};
 ghost use Rattle.std.specs.Prelude.{IfOk, All, Some, slice_get, Contains, IsTrue};
 ghost use Rattle.std.specs.List.{AllZip};
-ghost use Rattle.tv_model.specs.Form.{height};
+ghost use Rattle.tv_model.specs.Form.{form_of, height, vars_of};
 ghost use Rattle.tv_model.specs.Heap.{Heap};
-ghost use Rattle.tv_model.specs.Program.{RuleForm, head_of, rule_of, program_of};
+ghost use Rattle.tv_model.specs.Program.{KDefined, RuleForm, head_of, kind_of, rule_of, program_of};
 ghost use Rattle.tv_model.specs.Rules.{IsConcrete, MeetsProgram, MeetsRule};
 ghost use Rattle.tv_model.specs.Valid.{IsValid, IsRule};
 ghost use Rattle.tv_stable_laws.specs.Laws.{IsPlainRule};
 ghost use Rattle.tv_model.specs.Rules.{IsFreeInRule};
 ghost use Rattle.tv_rules.specs.Closing.{closed_rules, closed_set, conjuncts};
+ghost use Rattle.tv_rules.specs.Defining.{IsOfDefinition};
 ghost use Rattle.tv_rules.specs.Standing.{AreNumbersOf, StandsIn, SeesSummaries};
 ghost use Rattle.tv_rules.specs.EntryForms.{entry_of, closed_entries, rules_of};
 ghost use Rattle.tv_rules.specs.Laws.{IsNoHigher};
@@ -22,6 +23,7 @@ ghost use Rattle.tv_rules.specs.Waiting.{IsShape};
 ghost use Rattle.tv_coerce_members.specs.Members.{IsLaidOut};
 
 use crate::base::base_rules;
+use crate::defined::is_defining;
 use crate::entries::{Entries, Entry, closed_entries};
 use crate::mentioned::rules_with;
 use crate::moved::{families, movers_of};
@@ -32,7 +34,7 @@ use std::alloc::{AllocError, Global};
 use std::marker::Model;
 use tv_coerce_members::Shape;
 use tv_coerce_moves::{Mover, Movers};
-use tv_model::{Head, Items, PredId, Program, Rule, Rules};
+use tv_model::{Formula, Head, Items, Kind, PredId, Program, Rule, Rules, Terms};
 use tv_row::Flags;
 
 /// The closed rules of a program, and for each predicate the numbers of the rules in which it stands. A
@@ -194,6 +196,31 @@ impl Closed {
     {
         let entry = item_at(self.entries.as_slice(), number);
         numbers_at(self.families.as_slice(), entry.base)
+    }
+
+    /// Whether the rule came of the predicate's definition.
+    fn is_of_definition(&self, number: usize, p: PredId, vars: Terms, body: &Formula) -> bool
+        requires { number < length (rules_of self.now) }
+        ensures { IsTrue result
+            → IsOfDefinition self.now p.0 (KDefined (vars_of vars) (form_of body.now)) number }
+    {
+        let entry = item_at(self.entries.as_slice(), number);
+        is_defining(item_at(self.bases.as_slice(), entry.base), p, vars, body)
+    }
+
+    /// Numbers of rules that came of the predicate's definition, if it has one.
+    pub fn defining(&self, alloc: Global, p: PredId, kind: &Kind) -> Result<Numbers, AllocError>
+        ensures { IfOk result (All (IsOfDefinition self.now p.0 (kind_of kind.now))) }
+    {
+        let mut numbers = Items::new(alloc);
+        if let Kind::Defined { vars, body } = kind {
+            for number in self.by_pred(p) {
+                if self.is_of_definition(*number, p, *vars, body) {
+                    numbers.push(*number)?;
+                }
+            }
+        }
+        Ok(numbers)
     }
 
     /// The number of the member of its base rule that a rule's head denies.

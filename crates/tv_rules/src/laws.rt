@@ -3,6 +3,7 @@
 ghost use Rattle.tv_rules.specs.Laws.{BaseRulesAreMet, ClosingKeepsMeaning, ClosedRulesAreMet};
 ghost use Rattle.tv_rules.specs.Laws.{FurtherRulesFollow, DroppingKeepsMeaning, TestsAreRight};
 ghost use Rattle.tv_rules.specs.Laws.{SwapsAreOfConjuncts, ClosedRulesAreRules, ConjunctsCarryFormulas};
+ghost use Rattle.tv_rules.specs.Defining.{DefinedValuesAreStable};
 ghost use Rattle.tv_rules.specs.Samples.{Samples};
 
 /// Each further rule holds in every heap in which its base rule holds.
@@ -54,4 +55,9 @@ pub fn closed_rules_are_rules()
 /// than it does.
 pub fn conjuncts_carry_formulas()
     ensures { ConjunctsCarryFormulas }
+{}
+
+/// Where a predicate has the values of its definition, a structure is stable under the rules of that.
+pub fn defined_values_are_stable()
+    ensures { DefinedValuesAreStable }
 {}

@@ -5,6 +5,7 @@
 mod base;
 mod closed;
 mod conjuncts;
+mod defined;
 mod entries;
 mod laws;
 mod mentioned;
@@ -16,6 +17,7 @@ mod watch;
 pub use closed::{Closed, close_rules};
 pub use laws::{
     base_rules_are_met, closed_rules_are_met, closed_rules_are_rules, closing_keeps_meaning,
-    conjuncts_carry_formulas, dropping_keeps_meaning, further_rules_follow, samples_are_closed,
-    swaps_are_of_conjuncts, tests_are_right,
+    conjuncts_carry_formulas, defined_values_are_stable, dropping_keeps_meaning,
+    further_rules_follow, samples_are_closed, swaps_are_of_conjuncts, tests_are_right,
 };
+pub use watch::Numbers;

@@ -1,5 +1,5 @@
--- What an action gives from a stable structure is stable under the rules that it leaves alone, and differs from
--- it in what the action updates and evaluates anew.
+-- What an action gives from a stable structure is stable under the rules that it leaves alone and under those of
+-- definitions that it evaluates anew, and differs from it in what the action updates and evaluates anew.
 use Rattle.std.proofs.Common.{ℕ, suc, ◌≡◌, ◌∙◌, ◌<◌, true, false, Bool, List, [], ◌∷◌, ◌++◌, length}
 use Rattle.std.proofs.Common.{map}
 use Rattle.std.proofs.Common.{filter, Option, None, Some, inl, inr, ⊎_elim, refl, sym, ap, subst, arith}
@@ -15,18 +15,24 @@ use Rattle.std.proofs.lemmas.List.FromFn.{length-map-range_with_len, length-rang
 use Rattle.tv_model.specs.declared.formula.PredId.{PredId}
 use Rattle.tv_model.specs.declared.program.Mode.{Mode}
 use Rattle.tv_model.specs.Form.{Form}
-use Rattle.tv_model.specs.Program.{ProgramForm, RuleForm, ActionForm, UpdateForm, RetainForm, KindForm, KCore}
+use Rattle.tv_model.specs.Program.{ProgramForm, PredForm, RuleForm, ActionForm, UpdateForm, RetainForm}
+use Rattle.tv_model.specs.Program.{KindForm, KCore}
 use Rattle.tv_model.specs.Program.{KDefined}
 use Rattle.tv_model.specs.Step.{update_for}
-use Rattle.tv_model.specs.Truth.{Assignment}
-use Rattle.tv_model.specs.Valid.{IsValid}
+use Rattle.tv_model.specs.Rules.{blank}
+use Rattle.tv_model.specs.Truth.{Assignment, put_all}
+use Rattle.tv_model.specs.Valid.{IsKind, IsOver, IsValid}
 use Rattle.tv_model.proofs.Decided.{Contains-decided}
 use Rattle.tv_model.proofs.Lists.{All-from_contains, Contains-cases, Contains-here, Contains-map}
 use Rattle.tv_model.proofs.Lists.{Contains-none, Contains-there, slice_get-contains}
 use Rattle.tv_embedding_laws.specs.LogicalStructure.{LogicalStructure}
+use Rattle.tv_eval_laws.specs.Value.{value}
+use Rattle.tv_kleene.specs.declared.K3.TheVariants.{No}
 use Rattle.tv_stable_laws.specs.Laws.{IsPlainRule}
 use Rattle.tv_stable_laws.specs.Stable.{IsStable, IsStableUnder}
 use Rattle.tv_rules.specs.Closing.{closed_rules}
+use Rattle.tv_rules.specs.Defining.{HasDefinedValues}
+use Rattle.tv_rules.proofs.DefinedValues.{defined-everywhere}
 use Rattle.tv_rules.proofs.Ranges.{rules_are_plain}
 use Rattle.tv_rules.specs.Standing.{StandsIn}
 use Rattle.tv_coerce_laws.specs.Split.{IsUntouched}
@@ -40,13 +46,16 @@ use Rattle.tv_update_laws.specs.Choices.{choices_of, stays_in, AreGiven}
 use Rattle.tv_coerce.specs.RuleSets.{IsStableBut}
 use Rattle.tv_update_laws.proofs.Updates.{none-used}
 use Rattle.tv_update_laws.proofs.Determined.{changed-too}
+use Rattle.tv_update_laws.proofs.Predicates.{defined-found, valid-pred}
 use Rattle.tv_update.specs.Plan.{IsPlan, IsPlanFor}
 use Rattle.tv_step_laws.proofs.From.{zip-back}
 use Rattle.tv_step.specs.declared.changed.Reach.{Reach}
 use Rattle.tv_step.specs.declared.changed.Reach.TheVariants.{Anywhere, Of}
 use Rattle.tv_coerce_sets.specs.Turned.{AreAlike, HasSameValues}
 use Rattle.tv_step.specs.Changed.{AreAlikeBut, DiffersWithin, IsReachOf}
+use Rattle.tv_step.specs.Redefined.{AreDefining, IsMetBy}
 use Rattle.tv_step.specs.Waiting.{IsLeftAlone, WaitsFor}
+use Rattle.tv_step.specs.declared.changed.Redefined.{Redefined}
 
 -- ---- no individual comes or goes
 
@@ -266,3 +275,66 @@ given-within p valid mode action s a ts plan is_plan given (Of updates preds) (s
         ≡ map (λ w. w.pred.0) updates.now ++ map (λ x. x.0) preds.now
     reached = ap (λ qs. qs ++ map (λ x. x.0) plan) (sym same)
         ∙ ap (λ xs. map (λ w. w.pred.0) updates.now ++ map (λ x. x.0) xs) (sym planned)
+
+-- ---- definitions that are evaluated anew
+
+-- a predicate of the plan has the values of its definition in what the action gives
+pub given-defined : (p : ProgramForm) → IsValid p → (mode : Mode) (action : ActionForm) (s t : StructureForm)
+    (a : Assignment) (ts : List StructureForm) (order : List ℕ) → IsPlan p mode action order
+    → AreGiven p mode action (structure_of s) a (map structure_of ts) → Contains ts t
+    → (q : ℕ) → Contains order q → HasDefinedValues (structure_of t) q (kind_at p q)
+given-defined p valid mode action s t a ts order plan given at q among = by_kind (kind_at p q) refl
+  where
+    middle : LogicalStructure
+    middle = given.0
+
+    new : LogicalStructure
+    new = structure_of t
+
+    found : (us : List ℕ) × Contains (choices_of (keep_value middle a action.retain) middle.individuals) us
+        × IsNew p mode action a middle (stays_in us) new
+    found = zip-back (λ us u. IsNew p mode action a middle (stays_in us) u)
+        (choices_of (keep_value middle a action.retain) middle.individuals) (map structure_of ts) given.2 new
+        (Contains-map structure_of t ts at)
+
+    is : IsNew p mode action a middle (stays_in found.0) new
+    is = found.2
+
+    changed : is.changed q ≡ true
+    changed = changed-too p mode action valid.rank valid.no_cycle plan.changed is.changed plan.are_changed
+        is.are_changed (suc (valid.rank q)) q (omega arith) ((plan.members q).0 among).0
+
+    by_kind : (kind : KindForm) → kind_at p q ≡ kind → HasDefinedValues new q (kind_at p q)
+    by_kind KCore e = subst (HasDefinedValues new q) (sym e) tt
+    by_kind (KDefined vars body) e = subst (HasDefinedValues new q) (sym e)
+        (defined-everywhere new q vars body over values)
+      where
+        over : IsOver vars body
+        over = let f : (d : PredForm) × (slice_get p.preds q ≡ Some d) × (d.kind ≡ KDefined vars body)
+            = defined-found p q vars body e
+            in (subst (IsKind p f.0.arity) f.2 (valid-pred p valid q f.0 f.1).kind).2
+
+        values : (tuple : List ℕ) → All (Contains new.individuals) tuple → length tuple ≡ length vars
+            → new.value q tuple ≡ value new (put_all blank vars tuple) body
+        values tuple all long =
+            is.values q tuple all
+            ∙ ap (λ o. new_value middle new a (is.changed q) o (kind_at p q) q (map is.origin tuple) tuple) ((plan.members q).0 among).1
+            ∙ ap (λ k. new_value middle new a (is.changed q) None k q (map is.origin tuple) tuple) e
+            ∙ cond-true (is.changed q) (defined_value new vars body tuple) (middle.value q (map is.origin tuple)) changed
+            ∙ cond-true (length tuple == length vars) (value new (put_all blank vars tuple) body) No
+            (eq-eqb (length tuple) (length vars) long)
+
+-- so each rule that came of such a definition is met there
+pub given-met : (p : ProgramForm) → IsValid p → (mode : Mode) (action : ActionForm) (s : StructureForm)
+    (a : Assignment) (ts : List StructureForm) (plan : List PredId) → IsPlanFor p mode action plan
+    → AreGiven p mode action (structure_of s) a (map structure_of ts)
+    → (rules : List RuleForm) (r : Redefined) → AreDefining p rules r.defining.now → r.preds.now ≡ plan
+    → All (IsMetBy r rules) ts
+given-met p valid mode action s a ts plan is_plan given rules r defining same =
+    All-from_contains (IsMetBy r rules) ts
+    (λ t at n of. (
+      defining.within of.0 n of.2,
+      λ rule there. defining.met of.0 n of.2 (structure_of t)
+          (given-defined p valid mode action s t a ts (map (λ x. x.0) plan) is_plan given at of.0
+          (subst (λ xs. Contains (map (λ x. x.0) xs) of.0) same of.1)) rule there,
+    ))

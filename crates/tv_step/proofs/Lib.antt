@@ -13,6 +13,7 @@ mod Keeping
 mod LeftAlone
 mod Noting
 mod Picking
+mod Redefining
 mod Said
 mod Sorting
 mod Stepping

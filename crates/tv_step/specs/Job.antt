@@ -14,6 +14,7 @@ use Rattle.tv_update.specs.Plan.{IsPlanFor}
 use Rattle.tv_step.specs.declared.job.Job.{Job}
 use Rattle.tv_step.specs.declared.picks.Case.{Case}
 use Rattle.tv_step.specs.Places.{focus_place, HasWaiting}
+use Rattle.tv_step.specs.Redefined.{AreDefining}
 use Rattle.tv_step.specs.Setting.{form_in, IsReadyToStep, IsStableIn}
 use Rattle.tv_step.specs.Waiting.{WaitsFor}
 
@@ -22,7 +23,7 @@ action_in job = action_of job.action.now
 
 -- the job's action is the program's, by its number; its turns are the atoms of the action's focus formulas,
 -- and the rules that wait are those that a choice of the atom and the action may leave unmet; the plan is
--- that of the mode
+-- that of the mode, and rules are listed by the predicates whose definitions they came of
 pub record IsJob (program : Program) (mode : Mode) (job : Job) : Type 0 where
   pub action : slice_get (program_of program).actions job.number ≡ Some (action_in job)
   pub places : map focus_place job.turns.items ≡ focus_places (action_in job).focus
@@ -30,6 +31,7 @@ pub record IsJob (program : Program) (mode : Mode) (job : Job) : Type 0 where
   pub waits : WaitsFor (program_of program) (action_in job)
       (closed_rules (program_of program)) job.waiting.value
   pub plan : IsPlanFor (program_of program) mode (action_in job) job.plan
+  pub defining : AreDefining (program_of program) (closed_rules (program_of program)) job.defining.value
 
 -- each action has such a job at its number; the greatest 32-bit number stands for all that are greater
 pub record AreJobs (program : Program) (mode : Mode) (jobs : List Job) : Type 0 where

@@ -5,6 +5,7 @@ pub mod Ending
 pub mod EngineForm
 pub mod Job
 pub mod Places
+pub mod Redefined
 pub mod Setting
 pub mod Starts
 pub mod Steps

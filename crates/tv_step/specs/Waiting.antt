@@ -8,6 +8,7 @@ use Rattle.tv_update_laws.specs.Applied.{kind_at, moves_individuals}
 use Rattle.tv_coerce.specs.RuleSets.{IsIn}
 use Rattle.tv_update.specs.Plan.{IsDefined}
 use Rattle.tv_coerce_sets.specs.declared.found.Kept.{Kept}
+use Rattle.tv_step.specs.Redefined.{AreDefining}
 use Rattle.tv_step.specs.declared.waiting.Shared.{Shared}
 
 -- the action leaves the rule alone: no individual comes or goes, and each predicate that stands in the rule
@@ -57,12 +58,13 @@ abbrev pub IsKeptAt : List RuleForm → Kept → Type 0
 IsKeptAt rules kept = WaitsAbout kept.preds.items rules kept.set.value
 
 -- all rules are in the first, and those in which a defined predicate stands in the second; each set that was
--- found is right for its predicates
+-- found is right for its predicates; and rules are listed by the predicates whose definitions they came of
 pub record IsShared (p : ProgramForm) (rules : List RuleForm) (sets : Shared) : Type 0 where
   pub all : sets.all.value ≡ replicate (length rules) true
   pub defined : HasRulesOf (λ q. IsDefined (kind_at p q)) rules (replicate (length rules) false) sets.defined
   pub after : All (IsKeptAfter p rules) sets.after.kept.items
   pub at : All (IsKeptAt rules) sets.at.kept.items
+  pub defining : AreDefining p rules sets.defining.value
 
 -- each rule whose number isn't in the set doesn't see which individuals are summaries, and is about none of
 -- the predicates below n that the formula mentions

@@ -1,8 +1,8 @@
 //! The rules that may be unmet in a structure that came of a stable one over the same individuals.
 
-ghost use Rattle.std.specs.Prelude.{◌≡◌, ◌++◌, length, map, IfOk, IsTrue};
+ghost use Rattle.std.specs.Prelude.{ℕ, ◌≡◌, ◌<◌, ◌++◌, [], length, map, IfOk, IsTrue, slice_get, unwrap_or};
 ghost use Rattle.std.specs.List.{range_with_len};
-ghost use Rattle.tv_coerce.specs.RuleSets.{IsStableBut};
+ghost use Rattle.tv_coerce.specs.RuleSets.{HasFewer, IsStableBut};
 ghost use Rattle.tv_coerce_sets.specs.Turned.{AreAlike};
 ghost use Rattle.tv_coerce_sets.specs.Unmet.{WaitsAmong};
 ghost use Rattle.tv_model.specs.Valid.{IsValid};
@@ -10,6 +10,7 @@ ghost use Rattle.tv_rules.specs.Closing.{closed_rules};
 ghost use Rattle.tv_rules.specs.EntryForms.{rules_of};
 ghost use Rattle.tv_struct.specs.StructureForm.{arities_of};
 ghost use Rattle.tv_step.specs.Changed.{DiffersWithin, IsFew};
+ghost use Rattle.tv_step.specs.Redefined.{IsMetBy, IsOfRedefined};
 ghost use Rattle.tv_step.specs.Setting.{form_in, IsStableIn};
 
 use crate::setting::Setting;
@@ -17,6 +18,7 @@ use std::alloc::AllocError;
 use tv_coerce::RuleSet;
 use tv_coerce_sets::with_changed;
 use tv_model::{PredId, Update};
+use tv_rules::Numbers;
 use tv_struct::Structure;
 
 /// Where a structure may differ from the one that it came of.
@@ -28,11 +30,32 @@ pub enum Reach<'a> {
     Of(&'a [Update], &'a [PredId]),
 }
 
-/// A stable structure, and where those that came of it may differ from it.
+/// Predicates that have the values of their definitions, and by each predicate numbers of rules that came of
+/// its definition, which are met by that.
+#[derive(Clone, Copy)]
+pub struct Redefined<'a> {
+    pub preds: &'a [PredId],
+    pub defining: &'a [Numbers],
+}
+
+impl<'a> Redefined<'a> {
+    /// No predicates.
+    pub fn none() -> Redefined<'a>
+        ensures { (n : ℕ) → ¬ IsOfRedefined result n }
+    {
+        Redefined {
+            preds: &[],
+            defining: &[],
+        }
+    }
+}
+
+/// A stable structure, where those that came of it may differ from it, and what was evaluated anew in them.
 #[derive(Clone, Copy)]
 pub struct Parent<'a> {
     pub from: &'a Structure,
     pub reach: Reach<'a>,
+    pub redefined: Redefined<'a>,
 }
 
 /// Whether the structures have the same individuals and the same summaries.
@@ -102,7 +125,7 @@ fn waiting_in_some(
 /// The rules that may be unmet in what came of a stable structure, where only those that wait may be: fewer,
 /// where it is over the same individuals and summaries, and none told where no value differs, so that it is
 /// stable.
-pub fn waiting_in(
+fn waiting_by_changes(
     x: &Setting,
     waiting: &RuleSet,
     parent: Parent<'_>,
@@ -125,5 +148,51 @@ pub fn waiting_in(
             waiting_in_all(x, parent.from, s)
         }
         Reach::Of(updates, preds) => waiting_in_some(x, parent.from, s, updates, preds),
+    }
+}
+
+/// The list at the predicate's number, if there is one.
+fn defining_at(lists: &[Numbers], p: PredId) -> &[usize]
+    ensures { result.now ≡ unwrap_or (slice_get lists.now p.0) [] }
+{
+    match lists.get(p.0 as usize) {
+        None => &[],
+        Some(numbers) => numbers.as_slice(),
+    }
+}
+
+/// Takes the rules out of the set that are met by what was evaluated anew.
+fn remove_met(redefined: Redefined<'_>, set: &mut RuleSet)
+    requires { (n : ℕ) → IsOfRedefined redefined n → n < length set.old }
+    ensures { HasFewer (IsOfRedefined redefined.entry) set.old set.new }
+{
+    for p in redefined.preds {
+        set.remove_all(defining_at(redefined.defining, *p));
+    }
+}
+
+/// The same without those that came of definitions which were evaluated anew: these are met.
+pub fn waiting_in(
+    x: &Setting,
+    waiting: &RuleSet,
+    parent: Parent<'_>,
+    s: &Structure,
+) -> Result<Option<RuleSet>, AllocError>
+    requires valid { IsValid (form_in x.now) }
+    requires rules { rules_of x.now.closed.now ≡ closed_rules (form_in x.now) }
+    requires like { arities_of parent.from.now ≡ arities_of s.now }
+    requires from { IsStableIn (form_in x.now) parent.from.now }
+    requires within { DiffersWithin parent.reach parent.from.now s.now }
+    requires count { length waiting.now ≡ length (rules_of x.now.closed.now) }
+    requires rest { IsStableBut (rules_of x.now.closed.now) waiting.now s.now }
+    requires met { IsMetBy parent.redefined (rules_of x.now.closed.now) s.now }
+    ensures { IfOk result (IsFew (form_in x.now) (rules_of x.now.closed.now) s.now) }
+{
+    match waiting_by_changes(x, waiting, parent, s)? {
+        None => Ok(None),
+        Some(mut set) => {
+            remove_met(parent.redefined, &mut set);
+            Ok(Some(set))
+        }
     }
 }

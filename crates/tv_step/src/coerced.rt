@@ -8,6 +8,7 @@ ghost use Rattle.tv_step_laws.specs.Parts.{AreFrom};
 ghost use Rattle.tv_step_laws.specs.Shaped.{IsShaped};
 ghost use Rattle.tv_step.specs.Changed.{DiffersWithin, IsFew};
 ghost use Rattle.tv_step.specs.Ending.{Becomes, IsEndOf};
+ghost use Rattle.tv_step.specs.Redefined.{IsMetBy};
 ghost use Rattle.tv_step.specs.Setting.{form_in, IsReadyToStep, IsStableIn};
 ghost use Rattle.tv_step.specs.Steps.{Adds};
 
@@ -158,6 +159,7 @@ pub fn push_all(
     requires within { All (DiffersWithin parent.reach parent.from.now) structures }
     requires count { length waiting.now ≡ length (rules_of x.now.closed.now) }
     requires rest { All (IsStableBut (rules_of x.now.closed.now) waiting.now) structures }
+    requires met { All (IsMetBy parent.redefined (rules_of x.now.closed.now)) structures }
     ensures out { OnOk result (Adds (AreFrom (Becomes ending (form_in x.now))) structures out.old out.new) }
     ensures scratch { scratch.new ≡ scratch.old }
 {

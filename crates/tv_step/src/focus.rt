@@ -15,7 +15,7 @@ ghost use Rattle.tv_step.specs.Steps.{Adds, IsPlace, KeepsLimits, IsFocusCause, 
 ghost use Rattle.tv_step.specs.Steps.{IsCauseOfFocus};
 ghost use Rattle.tv_step.specs.Waiting.{IsShared};
 
-use crate::changed::{Parent, Reach};
+use crate::changed::{Parent, Reach, Redefined};
 use crate::coerced::{Ending, push_all};
 use crate::setting::Setting;
 use crate::waiting::{Shared, waiting_at};
@@ -112,6 +112,7 @@ fn push_focused(
             let parent = Parent {
                 from: &from,
                 reach: Reach::Anywhere,
+                redefined: Redefined::none(),
             };
             Ok(push_all(
                 x,

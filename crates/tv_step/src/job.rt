@@ -15,7 +15,8 @@ use crate::waiting::{Shared, shared_sets, waiting_after};
 use std::alloc::{AllocError, Global};
 use std::rc::Rc;
 use tv_coerce::RuleSet;
-use tv_model::{Action, Edge, Program};
+use tv_model::{Action, Edge, Items, Program};
+use tv_rules::Numbers;
 use tv_update::{Order, Plan, order_of, plan_for};
 
 /// An action, made ready for steps: what these need of it that depends on no structure.
@@ -29,6 +30,8 @@ pub struct Job<'a> {
     /// them.
     pub waiting: Rc<RuleSet>,
     pub plan: Plan,
+    /// By each predicate numbers of rules that came of its definition: actions share them.
+    pub defining: Rc<Items<Numbers>>,
 }
 
 /// The greatest number of an action that an edge may name.
@@ -62,12 +65,14 @@ pub fn job_of<'a>(
     let turns = turns(x, shared, action.focus.as_slice())?;
     let waiting = waiting_after(x, shared, action, is_named)?;
     let plan = plan_for(x.alloc, x.program, order, number, x.mode)?;
+    let defining = shared.defining.clone()?;
     Ok(Job {
         action,
         number,
         turns,
         waiting,
         plan,
+        defining,
     })
 }
 

@@ -15,7 +15,7 @@ ghost use Rattle.tv_step.specs.Steps.{IsCauseOfPick, IsCauseOfPicks, StepsIn, Ke
 ghost use Rattle.tv_step.specs.Steps.{IsCauseOfUpdate};
 ghost use Rattle.tv_step.specs.Allowed.{precondition_values};
 
-use crate::changed::{Parent, Reach};
+use crate::changed::{Parent, Reach, Redefined};
 use crate::coerced::{Ending, push_all};
 use crate::job::Job;
 use crate::setting::Setting;
@@ -108,6 +108,10 @@ fn push_given(
     let parent = Parent {
         from: c.from,
         reach: reach_of(c.job),
+        redefined: Redefined {
+            preds: c.job.plan.as_slice(),
+            defining: c.job.defining.as_slice(),
+        },
     };
     push_all(
         x,

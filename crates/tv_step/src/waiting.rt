@@ -7,6 +7,7 @@ ghost use Rattle.tv_model.specs.Form.{form_of};
 ghost use Rattle.tv_model.specs.Program.{action_of};
 ghost use Rattle.tv_rules.specs.EntryForms.{rules_of};
 ghost use Rattle.tv_update.specs.Plan.{IsDefined};
+ghost use Rattle.tv_step.specs.Redefined.{AreOfDefinitions};
 ghost use Rattle.tv_step.specs.Setting.{form_in};
 ghost use Rattle.tv_step.specs.Waiting.{HasRulesOf, IsShared, WaitsAbout, WaitsAfter, WaitsAt};
 ghost use Rattle.tv_step.specs.Waiting.{WaitsFor};
@@ -16,7 +17,8 @@ use std::alloc::AllocError;
 use std::rc::Rc;
 use tv_coerce::RuleSet;
 use tv_coerce_sets::{Found, found_for, keep, mentioned, none_found, updated};
-use tv_model::{Action, Formula, Kind, PredId, Update};
+use tv_model::{Action, Formula, Items, Kind, PredId, Update};
+use tv_rules::Numbers;
 use tv_update::moves;
 
 /// Puts the rules in which one of the predicates stands into the set.
@@ -74,6 +76,22 @@ pub struct Shared {
     pub after: Found,
     /// Those that wait at focus, by the predicates that the formulas mention.
     pub at: Found,
+    /// By each predicate numbers of rules that came of its definition.
+    pub defining: Rc<Items<Numbers>>,
+}
+
+/// By each predicate numbers of rules that came of its definition.
+fn defining_rules(x: &Setting) -> Result<Items<Numbers>, AllocError>
+    requires { length x.now.program.now.vocab.preds ≤ 512 }
+    ensures { IfOk result (AreOfDefinitions (form_in x.now) x.now.closed.now) }
+{
+    let preds = x.program.vocab.preds.as_slice();
+    let mut lists = Items::new(x.alloc);
+    for number in 0..preds.len() {
+        let p = PredId(number as u32);
+        lists.push(x.closed.defining(x.alloc, p, &preds[number].kind)?)?;
+    }
+    Ok(lists)
 }
 
 /// The sets that all actions share.
@@ -86,11 +104,13 @@ pub fn shared_sets(x: &Setting) -> Result<Shared, AllocError>
     add_defined(x, &mut defined);
     let after = none_found(x.alloc);
     let at = none_found(x.alloc);
+    let defining = Rc::new(x.alloc, defining_rules(x)?)?;
     Ok(Shared {
         all,
         defined,
         after,
         at,
+        defining,
     })
 }
 

@@ -1,5 +1,6 @@
 -- Rows and words in which nothing is possible, and unary predicates that are No everywhere.
-use Rattle.std.proofs.Common.{ℕ, refl, ◌≡◌, ◌≢◌, ◌⊎◌, ◌<◌, ◌≤◌, ◌+◌, ◌∙◌, ◌-◌, ◌*◌, inl, inr, List, [], ◌∷◌, get_or}
+use Rattle.std.proofs.Common.{ℕ, refl, ◌≡◌, ◌≢◌, ◌⊎◌, ◌<◌, ◌≤◌, ◌+◌, ◌∙◌, ◌-◌, ◌*◌, inl, inr, List, [], ◌∷◌}
+use Rattle.std.proofs.Common.{get_or}
 use Rattle.std.proofs.Common.{length, sym, subst, arith, ⊎_elim}
 use Rattle.std.specs.Prelude.{Any}
 use Rattle.std.proofs.lemmas.Bool.{cases_lt}

@@ -262,6 +262,14 @@ impl Structure {
         self.fresh
     }
 
+    /// Takes the mark off, so that no individual is fresh.
+    pub fn unmark(&mut self)
+        ensures value { self.new ≡ unmarked self.old }
+        ensures kept { IsStructure self.new }
+    {
+        self.fresh = None;
+    }
+
     /// An equal structure in memory of its own.
     pub fn copy(&self, alloc: Global) -> Result<Structure, AllocError>
         ensures value { IfOk result (λ s. s ≡ self.now) }

@@ -1,5 +1,6 @@
 -- What the making of the new structures asks for.
-use Rattle.std.proofs.Common.{ℕ, ◌≡◌, ◌<◌, List, length, map, Option, None, Some, slice_get, refl, subst, ◌∙◌}
+use Rattle.std.proofs.Common.{ℕ, ◌≡◌, ◌<◌, List, length, map, Option, None, Some, slice_get, refl, sym, subst}
+use Rattle.std.proofs.Common.{◌∙◌}
 use Rattle.std.proofs.Common.{arith, Contains}
 use Rattle.std.proofs.lemmas.List.{length-map}
 use Rattle.std.proofs.lemmas.Option.{slice_get_within}
@@ -12,7 +13,7 @@ use Rattle.tv_model.specs.Program.{ProgramForm, PredForm, KindForm, KCore, KDefi
 use Rattle.tv_model.specs.Program.{action_of, pred_of, program_of}
 use Rattle.tv_model.specs.Truth.{Assignment}
 use Rattle.tv_model.proofs.Lists.{Contains-map}
-use Rattle.tv_struct.specs.StructureForm.{StructureForm}
+use Rattle.tv_struct.specs.StructureForm.{StructureForm, unmarked}
 use Rattle.tv_eval.specs.ScratchForm.{ScratchForm}
 use Rattle.tv_update_laws.specs.Applied.{kind_at, IsChanged}
 use Rattle.tv_update_laws.proofs.Predicates.{defined-found}
@@ -56,3 +57,15 @@ can_finish program action mode places m updated room picks order can made plan =
   ordered = plan.ordered;
   made = can.made;
 }
+
+-- and so in the structure without its mark
+pub can_finish_unmarked : (program : Program) (order : List PredId) (updated new : StructureForm) (room : ScratchForm)
+    → new ≡ unmarked updated → CanFinish program order updated room → CanFinish program order new room
+can_finish_unmarked program order updated new room e can =
+    subst (λ s. CanFinish program order s room) (sym e) (record {
+      valid = can.valid;
+      over = can.over;
+      preds = can.preds;
+      ordered = can.ordered;
+      made = can.made;
+    })

@@ -15,7 +15,7 @@ use Rattle.tv_model.proofs.Decided.{Contains-decided}
 use Rattle.tv_model.proofs.Lists.{Contains-here, Contains-there}
 use Rattle.tv_struct.specs.Origins.{AreKept}
 use Rattle.tv_struct.specs.StructureForm.{StructureForm, IsStructure, structure_of, value_at, without}
-use Rattle.tv_struct.specs.StructureForm.{kept_from}
+use Rattle.tv_struct.specs.StructureForm.{kept_from, unmarked}
 use Rattle.tv_struct.specs.Laws.{DrawnReads}
 use Rattle.tv_struct.proofs.Library.{AreIndividuals-range}
 use Rattle.tv_struct.proofs.OriginLaws.{are_kept}
@@ -31,7 +31,7 @@ use Rattle.tv_update_laws.proofs.Tables.{tables_are_kept}
 use Rattle.tv_update.specs.Kept.{with_flag, flag_choices}
 use Rattle.tv_update.specs.New.{IsFinished, AreFinished}
 use Rattle.tv_update.specs.Plan.{IsPlan}
-use Rattle.tv_update.specs.Staying.{StaysWhole}
+use Rattle.tv_update.specs.Staying.{AllStay}
 use Rattle.tv_update.specs.Update.{IsGivenOf}
 use Rattle.tv_update.specs.Updated.{updated_or, AreMade, keep_values}
 use Rattle.tv_update.proofs.KeptLaws.{kept_choices, choices_of_yes}
@@ -242,16 +242,34 @@ finished_are_given p mode action picks m updated order ts is made plan done = re
     long flags at = All-contains (λ fs. length fs ≡ m.size)
         (flag_choices (keep_values m picks action.retain)) flags (flags_fit m picks action) at
 
--- where all stay and none is marked, the updated structure is all that is given
-pub whole_is_given : (p : ProgramForm) (mode : Mode) (action : ActionForm) (picks : Assignment)
+-- where all stay, the updated structure is all that is given
+whole_is_given : (p : ProgramForm) (mode : Mode) (action : ActionForm) (picks : Assignment)
     (m updated : StructureForm) (order : List ℕ) (ts : List StructureForm) → IsStructure updated
     → AreMade p mode m picks action.updates m updated → IsPlan p mode action order
-    → StaysWhole m (keep_values m picks action.retain)
+    → AllStay (keep_values m picks action.retain)
     → AreFinished p order updated (replicate updated.size true ∷ []) ts → IsGivenOf p mode action picks m ts
 whole_is_given p mode action picks m updated order ts is made plan whole done =
     let count : updated.size ≡ length (keep_values m picks action.retain)
     = made.like.size ∙ sym (length-map-range_with_len (keep_value (structure_of m) picks action.retain) 0 m.size)
     in let one : replicate updated.size true ∷ [] ≡ flag_choices (keep_values m picks action.retain)
-    = ap (λ n. replicate n true ∷ []) count ∙ sym (choices_of_yes (keep_values m picks action.retain) whole.yes)
+    = ap (λ n. replicate n true ∷ []) count ∙ sym (choices_of_yes (keep_values m picks action.retain) whole)
     in finished_are_given p mode action picks m updated order ts is made plan
     (subst (λ choices. AreFinished p order updated choices ts) one done)
+
+-- individuals are taken from a structure as from the one without its mark
+from_marked : (p : ProgramForm) (order : List ℕ) (updated : StructureForm) (flags : List Bool) (ts : List StructureForm)
+    → AreFinished p order (unmarked updated) (flags ∷ []) ts → AreFinished p order updated (flags ∷ []) ts
+from_marked p order updated flags [] done = done
+from_marked p order updated flags (t ∷ []) (one, rest) = (record { is = one.is; evaluated = one.evaluated }, rest)
+from_marked p order updated flags (t ∷ u ∷ ts) (one, rest) = (record { is = one.is; evaluated = one.evaluated }, rest)
+
+-- where all stay, the updated structure without its mark is all that is given
+pub unmarked_is_given : (p : ProgramForm) (mode : Mode) (action : ActionForm) (picks : Assignment)
+    (m updated new : StructureForm) (order : List ℕ) (ts : List StructureForm) → IsStructure updated
+    → AreMade p mode m picks action.updates m updated → IsPlan p mode action order
+    → AllStay (keep_values m picks action.retain) → new ≡ unmarked updated
+    → AreFinished p order new (replicate new.size true ∷ []) ts → IsGivenOf p mode action picks m ts
+unmarked_is_given p mode action picks m updated new order ts is made plan whole e done =
+    whole_is_given p mode action picks m updated order ts is made plan whole
+    (from_marked p order updated (replicate updated.size true) ts
+    (subst (λ (s : StructureForm). AreFinished p order s (replicate s.size true ∷ []) ts) e done))

@@ -1,17 +1,15 @@
 -- Which individuals stay.
-use Rattle.std.specs.Prelude.{◌≡◌, List, None, All}
+use Rattle.std.specs.Prelude.{◌≡◌, List, All}
 use Rattle.tv_kleene.specs.declared.K3.{K3}
 use Rattle.tv_kleene.specs.declared.K3.TheVariants.{Yes}
-use Rattle.tv_struct.specs.StructureForm.{StructureForm}
 use Rattle.tv_update.specs.declared.kept.Staying.{Staying}
 use Rattle.tv_update.specs.declared.kept.Staying.TheVariants.{Whole, By}
 
--- all individuals stay by these values of the retain formula, and none is marked
-pub record StaysWhole (middle : StructureForm) (values : List K3) : Type 0 where
-  pub unmarked : middle.fresh ≡ None
-  pub yes : All (λ k. k ≡ Yes) values
+-- all individuals stay by these values of the retain formula
+abbrev pub AllStay : (values : List K3) → Type 0
+AllStay values = All (λ k. k ≡ Yes) values
 
--- that is what these values of the retain formula say of the middle structure
-abbrev pub IsStaying : (middle : StructureForm) → (values : List K3) → Staying → Type 0
-IsStaying middle values Whole = StaysWhole middle values
-IsStaying middle values (By kept) = kept.items ≡ values
+-- that is what these values of the retain formula say
+abbrev pub IsStaying : (values : List K3) → Staying → Type 0
+IsStaying values Whole = AllStay values
+IsStaying values (By kept) = kept.items ≡ values

@@ -15,7 +15,7 @@ pub type StayFlags = Items<bool>;
 /// Which individuals stay.
 #[derive(Debug, Drop)]
 pub enum Staying {
-    /// All do, and none is marked: the structure stays whole.
+    /// All do: the structure stays whole.
     Whole,
     /// By these values of the retain formula, individual by individual.
     By(Vec<K3>),

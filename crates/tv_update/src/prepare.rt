@@ -1,11 +1,11 @@
 //! What is read in the middle structure.
 
-ghost use Rattle.std.specs.Prelude.{◌≡◌, ◌≤◌, None, IsTrue, IfOk, IfErr, OnOk};
+ghost use Rattle.std.specs.Prelude.{◌≡◌, ◌≤◌, IsTrue, IfOk, IfErr, OnOk};
 ghost use Rattle.tv_struct.specs.Halves.{row_halves};
-ghost use Rattle.tv_struct.specs.StructureForm.{IsStructure};
+ghost use Rattle.tv_struct.specs.StructureForm.{StructureForm, IsStructure};
 ghost use Rattle.tv_eval.specs.Bound.{IsBound, bound_structure, bound_room};
 ghost use Rattle.tv_update.specs.Applying.{CanBeApplied, IsUpdated, values_to_keep};
-ghost use Rattle.tv_update.specs.Staying.{IsStaying, StaysWhole};
+ghost use Rattle.tv_update.specs.Staying.{AllStay, IsStaying};
 ghost use Rattle.tv_update.specs.Updated.{IsPrepareCause};
 
 use crate::application::Application;
@@ -55,20 +55,13 @@ fn keep_row<'a>(applied: &Application<'a>, middle: &Structure, e: &mut Evaluator
     }
 }
 
-/// Whether all individuals stay, and none is marked.
-fn stays_whole(middle: &Structure, keep: &Row) -> bool
-    ensures { IsTrue result → StaysWhole middle.now keep.now }
-{
-    middle.fresh().is_none() && keep.are_yes()
-}
-
 /// Which individuals stay by these values of the retain formula.
-fn staying_by(alloc: Global, middle: &Structure, keep: &Row) -> Result<Staying, StageError>
-    ensures staying { IfOk result (IsStaying middle.now keep.now) }
+fn staying_by(alloc: Global, keep: &Row) -> Result<Staying, StageError>
+    ensures staying { IfOk result (IsStaying keep.now) }
     ensures few { OnOk result (row_halves keep.now ≤ 12) }
     ensures cause { IfErr result (IsPrepareCause keep.now) }
 {
-    if stays_whole(middle, keep) {
+    if keep.are_yes() {
         return Ok(Staying::Whole);
     }
     let _ = keep.size();
@@ -79,18 +72,12 @@ fn staying_by(alloc: Global, middle: &Structure, keep: &Row) -> Result<Staying, 
     Ok(Staying::By(values))
 }
 
-fn is_unmarked(s: &Structure) -> bool
-    ensures { IsTrue result → s.now.fresh ≡ None }
-{
-    s.fresh().is_none()
-}
-
-/// Whether there is no retain formula, and no individual is marked.
-pub fn stays_unasked(applied: &Application, middle: &Structure) -> bool
-    ensures { IsTrue result → StaysWhole middle.now (values_to_keep applied.now middle.now) }
+/// Whether there is no retain formula.
+pub fn stays_unasked(applied: &Application) -> bool
+    ensures { IsTrue result → (middle : StructureForm) → AllStay (values_to_keep applied.now middle) }
 {
     match &applied.action.retain {
-        None => is_unmarked(middle),
+        None => true,
         Some(_) => false,
     }
 }
@@ -105,17 +92,17 @@ fn staying<'a>(
     requires bound { IsBound e.old }
     requires structure { bound_structure e.old ≡ middle.now }
     requires can { CanBeApplied applied.now middle.now (bound_room e.old) }
-    ensures staying { IfOk result (IsStaying middle.now (values_to_keep applied.now middle.now)) }
+    ensures staying { IfOk result (IsStaying (values_to_keep applied.now middle.now)) }
     ensures few { OnOk result (row_halves (values_to_keep applied.now middle.now) ≤ 12) }
     ensures cause { IfErr result (IsPrepareCause (values_to_keep applied.now middle.now)) }
     ensures bound { IsBound e.new }
     ensures structure { bound_structure e.new ≡ bound_structure e.old }
     ensures room { bound_room e.new ≡ bound_room e.old }
 {
-    if stays_unasked(applied, middle) {
+    if stays_unasked(applied) {
         return Ok(Staying::Whole);
     }
-    staying_by(alloc, middle, &keep_row(applied, middle, e))
+    staying_by(alloc, &keep_row(applied, middle, e))
 }
 
 /// The structure with the updates that count.
@@ -158,7 +145,7 @@ pub fn prepare<'a>(
     requires structure { bound_structure e.old ≡ middle.now }
     requires can { CanBeApplied applied.now middle.now (bound_room e.old) }
     ensures staying { IfOk result
-        (λ x. IsStaying middle.now (values_to_keep applied.now middle.now) x.staying) }
+        (λ x. IsStaying (values_to_keep applied.now middle.now) x.staying) }
     ensures few { OnOk result (row_halves (values_to_keep applied.now middle.now) ≤ 12) }
     ensures made { IfOk result (λ x. IsUpdated applied.now middle.now x.updated) }
     ensures cause { IfErr result (IsPrepareCause (values_to_keep applied.now middle.now)) }

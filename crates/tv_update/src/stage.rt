@@ -12,7 +12,7 @@ ghost use Rattle.tv_update_laws.specs.Tables.{middle_table, IsGivenOver};
 ghost use Rattle.tv_update.specs.Applying.{CanBeApplied, IsUpdated, IsPlanOf, IsGivenBy, IsAnswerTo};
 ghost use Rattle.tv_update.specs.Applying.{IsCauseFor, values_to_keep};
 ghost use Rattle.tv_update.specs.Plan.{IsPlanFor};
-ghost use Rattle.tv_update.specs.Staying.{IsStaying, StaysWhole};
+ghost use Rattle.tv_update.specs.Staying.{AllStay, IsStaying};
 ghost use Rattle.tv_update.specs.Update.{action_at, IsWithinLimits, IsUpdateCause, IsSole, KeepsSteps};
 ghost use Rattle.tv_update.specs.Update.{IsFull, IsGivenOf};
 ghost use Rattle.tv_update.specs.Updated.{IsPrepareCause, keep_values};
@@ -43,7 +43,7 @@ fn read(
 ) -> Result<Prepared, StageError>
     requires can { CanBeApplied applied.now middle.now scratch.old }
     ensures staying { IfOk result
-        (λ x. IsStaying middle.now (values_to_keep applied.now middle.now) x.staying) }
+        (λ x. IsStaying (values_to_keep applied.now middle.now) x.staying) }
     ensures few { OnOk result (row_halves (values_to_keep applied.now middle.now) ≤ 12) }
     ensures made { IfOk result (λ x. IsUpdated applied.now middle.now x.updated) }
     ensures cause { IfErr result (IsPrepareCause (values_to_keep applied.now middle.now)) }
@@ -81,8 +81,8 @@ fn update_copy(
     made
 }
 
-/// Makes what the action gives of `t`, an equal of the middle structure, where all individuals stay and none
-/// is marked.
+/// Makes what the action gives of `t`, an equal of the middle structure, where all individuals stay: it loses
+/// its mark alone.
 fn finish_copy(
     alloc: Global,
     applied: &Application,
@@ -93,13 +93,14 @@ fn finish_copy(
 ) -> Result<(), AllocError>
     requires can { CanBeApplied applied.now middle.now scratch.old }
     requires plan { IsPlanOf applied.now plan.now }
-    requires whole { StaysWhole middle.now (values_to_keep applied.now middle.now) }
+    requires whole { AllStay (values_to_keep applied.now middle.now) }
     requires same { t.old ≡ middle.now }
     ensures given { OnOk result (IsGivenBy applied.now middle.now (t.new ∷ [])) }
     ensures scratch { scratch.new ≡ scratch.old }
 {
     update_copy(alloc, applied, middle, t, scratch)?;
     let _ = t.size();
+    t.unmark();
     new::finish_whole(alloc, applied.program, plan.as_slice(), t, scratch)
 }
 
@@ -130,7 +131,7 @@ fn finish_by(
     new_structures(alloc, &recipe, choices.as_slice(), scratch)
 }
 
-/// The only structure that the action gives, where all individuals stay and none is marked.
+/// The only structure that the action gives, where all individuals stay.
 fn finish_whole(
     alloc: Global,
     applied: &Application,
@@ -141,13 +142,15 @@ fn finish_whole(
 ) -> Result<Structures, AllocError>
     requires can { CanBeApplied applied.now middle.now scratch.old }
     requires plan { IsPlanOf applied.now plan.now }
-    requires whole { StaysWhole middle.now (values_to_keep applied.now middle.now) }
+    requires whole { AllStay (values_to_keep applied.now middle.now) }
     requires made { IsUpdated applied.now middle.now updated }
     ensures given { IfOk result (IsGivenBy applied.now middle.now) }
     ensures scratch { scratch.new ≡ scratch.old }
 {
-    let _ = updated.size();
-    whole_structure(alloc, applied.program, plan.as_slice(), updated, scratch)
+    let mut whole = updated;
+    let _ = whole.size();
+    whole.unmark();
+    whole_structure(alloc, applied.program, plan.as_slice(), whole, scratch)
 }
 
 /// The structures that the action gives of what was read.
@@ -161,7 +164,7 @@ fn finish(
 ) -> Result<Structures, AllocError>
     requires can { CanBeApplied applied.now middle.now scratch.old }
     requires plan { IsPlanOf applied.now plan.now }
-    requires staying { IsStaying middle.now (values_to_keep applied.now middle.now) prepared.staying }
+    requires staying { IsStaying (values_to_keep applied.now middle.now) prepared.staying }
     requires made { IsUpdated applied.now middle.now prepared.updated }
     ensures given { IfOk result (IsGivenBy applied.now middle.now) }
     ensures scratch { scratch.new ≡ scratch.old }
@@ -181,8 +184,8 @@ fn finish(
     }
 }
 
-/// The only structure that the action gives, where it is known without reading that all individuals stay and
-/// none is marked. It is made in its place in the list.
+/// The only structure that the action gives, where it is known without reading that all individuals stay. It
+/// is made in its place in the list.
 fn give_whole(
     alloc: Global,
     applied: &Application,
@@ -192,7 +195,7 @@ fn give_whole(
 ) -> Result<Structures, AllocError>
     requires can { CanBeApplied applied.now middle.now scratch.old }
     requires plan { IsPlanOf applied.now plan.now }
-    requires whole { StaysWhole middle.now (values_to_keep applied.now middle.now) }
+    requires whole { AllStay (values_to_keep applied.now middle.now) }
     ensures given { IfOk result (IsGivenBy applied.now middle.now) }
     ensures scratch { scratch.new ≡ scratch.old }
 {
@@ -217,7 +220,7 @@ fn in_middle(
     ensures cause { IfErr result (IsPrepareCause (values_to_keep applied.now middle.now)) }
     ensures scratch { scratch.new ≡ scratch.old }
 {
-    if stays_unasked(applied, middle) {
+    if stays_unasked(applied) {
         return Ok(give_whole(alloc, applied, plan, middle, scratch)?);
     }
     let prepared = read(alloc, applied, middle, scratch)?;

@@ -12,6 +12,7 @@ use Rattle.tv_eval.specs.Bound.{bound_room}
 use Rattle.tv_rules.specs.EntryForms.{rules_of}
 use Rattle.tv_struct.specs.StructureForm.{arities_of}
 use Rattle.tv_coerce.specs.Counting.{IsWalkStart, counted, members_in, variables_in}
+use Rattle.tv_coerce.specs.Opened.{IsGoingOn}
 use Rattle.tv_coerce.specs.Ready.{CanCoerce}
 use Rattle.tv_coerce.specs.Trying.{DifferOnlyAt, IsTold, rule_at, trial_rule}
 use Rattle.tv_coerce.specs.Walks.{AreTriedFor, GoesOnIn, IsBetween, IsInChunk}
@@ -209,8 +210,8 @@ walk_chunk-counted_all-own-requires-clause-long t c =
     (all-word c.args.trial.now.structure.now.size c.args.chunk c.places.result Yes c.of-all.result
     (c.places.ensures.value ∙ ap (λ n. min 64 (n - 64 * c.args.chunk)) c.size.ensures.size) c.requires.chunk c.of-all.ensures).long
 
-pub walk_chunk-opened-alive-requires : goal.walk_chunk-opened-alive-requires
-walk_chunk-opened-alive-requires t c =
+pub walk_chunk-opened-ways-requires : goal.walk_chunk-opened-ways-requires
+walk_chunk-opened-ways-requires t c =
     let trial = c.args.trial.now
     in let is = c.requires.trial
     in let s = trial.structure.now
@@ -233,6 +234,12 @@ walk_chunk-opened-alive-requires t c =
       long = (own.long, c.requires.walk.long);
       within = λ i low some. all.within i low (own.some i low some);
     }
+
+pub walk_chunk-going_on-alive-requires : goal.walk_chunk-going_on-alive-requires
+walk_chunk-going_on-alive-requires t c = record {
+  long = c.opened-ways.ensures.long;
+  words = λ word found. (c.requires.walk.narrowed (length c.args.rest.now) word found).1;
+}
 
 pub walk_chunk-set-requires : goal.walk_chunk-set-requires
 walk_chunk-set-requires t c =
@@ -261,6 +268,8 @@ walk_chunk-counted_all-word-requires-clause-can t c =
     in let w = trial.last.0
     in let first = 64 * k
     in let a = c.args.a.now
+    in let going = subst (λ n. IsGoingOn trial.later.now n c.args.tail c.opened-ways.result c.going_on-alive.result)
+    (sym (length-map c.args.rest.now (λ (x : Var). x.0))) c.going_on-alive.ensures
     in let on = left-on trial v rest c.requires.walk.left
     in let found = subst (λ n. slice_get trial.shape.now.levels n ≡ Some c.level_of-level.result.now)
     (sym (length-map c.args.rest.now (λ (x : Var). x.0))) c.level_of-level.ensures
@@ -271,8 +280,9 @@ walk_chunk-counted_all-word-requires-clause-can t c =
     in let i = c.in-Some.i
     in let steps = subst (AreSteps ms (length rest) true) (sym c.as_slice-steps.ensures)
     (level-last trial is rest on c.level_of-level.result.now found)
-    in let is-own = c.opened-alive.ensures.kept i c.in-Some.ensures.1 c.in-Some.ensures.2
-    in let within = all.within i c.in-Some.ensures.1 (own.some i c.in-Some.ensures.1 (λ e. c.in-Some.ensures.2 (is-own ∙ e)))
+    in let opens = going.some i c.in-Some.ensures.1 c.in-Some.ensures.2
+    in let is-own = c.opened-ways.ensures.kept i c.in-Some.ensures.1 opens
+    in let within = all.within i c.in-Some.ensures.1 (own.some i c.in-Some.ensures.1 (λ e. opens (is-own ∙ e)))
     in let is-put = put-kept v (rest ++ w ∷ []) (first + i) a c.loop-i.a c.set.new.self c.loop-i.invariant.1 c.set.ensures.places
     in read-last trial is (bound_room c.loop-i.evaluator)
     (can-try-kin trial _ trial.number (own-kin trial is)
@@ -293,6 +303,8 @@ walk_chunk-walk-requires t c =
     in let w = trial.last.0
     in let first = 64 * k
     in let a = c.args.a.now
+    in let going = subst (λ n. IsGoingOn trial.later.now n c.args.tail c.opened-ways.result c.going_on-alive.result)
+    (sym (length-map c.args.rest.now (λ (x : Var). x.0))) c.going_on-alive.ensures
     in let on = left-on trial v rest c.requires.walk.left
     in let found = subst (λ n. slice_get trial.shape.now.levels n ≡ Some c.level_of-level.result.now)
     (sym (length-map c.args.rest.now (λ (x : Var). x.0))) c.level_of-level.ensures
@@ -304,8 +316,9 @@ walk_chunk-walk-requires t c =
     in let placed = c.set.new.self
     in let steps = subst (AreSteps ms (length rest) true) (sym c.as_slice-steps.ensures)
     (level-last trial is rest on c.level_of-level.result.now found)
-    in let is-own = c.opened-alive.ensures.kept i c.in-Some.ensures.1 c.in-Some.ensures.2
-    in let there : get_or c.counted_all-own.result i No ≢ No = λ e. c.in-Some.ensures.2 (is-own ∙ e)
+    in let opens = going.some i c.in-Some.ensures.1 c.in-Some.ensures.2
+    in let is-own = c.opened-ways.ensures.kept i c.in-Some.ensures.1 opens
+    in let there : get_or c.counted_all-own.result i No ≢ No = λ e. opens (is-own ∙ e)
     in let some = own.some i c.in-Some.ensures.1 there
     in let within = all.within i c.in-Some.ensures.1 some
     in let is-put = put-kept v (rest ++ w ∷ []) (first + i) a c.loop-i.a placed c.loop-i.invariant.1 c.set.ensures.places
@@ -318,7 +331,7 @@ walk_chunk-walk-requires t c =
     with-own (c.counted_all-word.ensures.counted (length rest) true steps)
     in let stays = stays-on s c.args.evaluator.now c.loop-i.evaluator c.counted_all-word.new.evaluator c.loop-i.invariant.0 c.counted_all-word.ensures.stays
     in let passed = open-passed trial is v rest a c.args.tail c.as_slice-steps.result.now c.requires.walk steps k c.of-all.result
-    c.counted_all-own.result c.opened-alive.result all own c.opened-alive.ensures c.loop-i.from i (omega (arith, c.in-Some.ensures.1))
+    c.counted_all-own.result c.opened-ways.result c.going_on-alive.result all own c.opened-ways.ensures going c.requires.chunk c.loop-i.from i (omega (arith, c.in-Some.ensures.1))
     c.in-Some.ensures.3
     in (
       omega (arith, c.decreases),
@@ -399,6 +412,8 @@ walk_chunk-loop-i-preserved-else-has_more t c =
     in let w = trial.last.0
     in let first = 64 * k
     in let a = c.args.a.now
+    in let going = subst (λ n. IsGoingOn trial.later.now n c.args.tail c.opened-ways.result c.going_on-alive.result)
+    (sym (length-map c.args.rest.now (λ (x : Var). x.0))) c.going_on-alive.ensures
     in let on = left-on trial v rest c.requires.walk.left
     in let found = subst (λ n. slice_get trial.shape.now.levels n ≡ Some c.level_of-level.result.now)
     (sym (length-map c.args.rest.now (λ (x : Var). x.0))) c.level_of-level.ensures
@@ -410,8 +425,9 @@ walk_chunk-loop-i-preserved-else-has_more t c =
     in let placed = c.set.new.self
     in let steps = subst (AreSteps ms (length rest) true) (sym c.as_slice-steps.ensures)
     (level-last trial is rest on c.level_of-level.result.now found)
-    in let is-own = c.opened-alive.ensures.kept i c.in-Some.ensures.1 c.in-Some.ensures.2
-    in let there : get_or c.counted_all-own.result i No ≢ No = λ e. c.in-Some.ensures.2 (is-own ∙ e)
+    in let opens = going.some i c.in-Some.ensures.1 c.in-Some.ensures.2
+    in let is-own = c.opened-ways.ensures.kept i c.in-Some.ensures.1 opens
+    in let there : get_or c.counted_all-own.result i No ≢ No = λ e. opens (is-own ∙ e)
     in let some = own.some i c.in-Some.ensures.1 there
     in let within = all.within i c.in-Some.ensures.1 some
     in let is-put = put-kept v (rest ++ w ∷ []) (first + i) a c.loop-i.a placed c.loop-i.invariant.1 c.set.ensures.places
@@ -424,7 +440,7 @@ walk_chunk-loop-i-preserved-else-has_more t c =
     with-own (c.counted_all-word.ensures.counted (length rest) true steps)
     in let stays = stays-on s c.args.evaluator.now c.loop-i.evaluator c.counted_all-word.new.evaluator c.loop-i.invariant.0 c.counted_all-word.ensures.stays
     in let passed = open-passed trial is v rest a c.args.tail c.as_slice-steps.result.now c.requires.walk steps k c.of-all.result
-    c.counted_all-own.result c.opened-alive.result all own c.opened-alive.ensures c.loop-i.from i (omega (arith, c.in-Some.ensures.1))
+    c.counted_all-own.result c.opened-ways.result c.going_on-alive.result all own c.opened-ways.ensures going c.requires.chunk c.loop-i.from i (omega (arith, c.in-Some.ensures.1))
     c.in-Some.ensures.3
     in let told = subst (IsTold trial (AreTriedFor trial (GoesOnIn trial (rest ++ w ∷ []) (assignment_of placed))) c.loop-i.noted c.walk.new.noted)
     c.in-Possible.is c.in_ok-walk.ensures.told
@@ -456,6 +472,8 @@ walk_chunk-loop-i-preserved t c =
     in let w = trial.last.0
     in let first = 64 * k
     in let a = c.args.a.now
+    in let going = subst (λ n. IsGoingOn trial.later.now n c.args.tail c.opened-ways.result c.going_on-alive.result)
+    (sym (length-map c.args.rest.now (λ (x : Var). x.0))) c.going_on-alive.ensures
     in let on = left-on trial v rest c.requires.walk.left
     in let found = subst (λ n. slice_get trial.shape.now.levels n ≡ Some c.level_of-level.result.now)
     (sym (length-map c.args.rest.now (λ (x : Var). x.0))) c.level_of-level.ensures
@@ -467,8 +485,9 @@ walk_chunk-loop-i-preserved t c =
     in let placed = c.set.new.self
     in let steps = subst (AreSteps ms (length rest) true) (sym c.as_slice-steps.ensures)
     (level-last trial is rest on c.level_of-level.result.now found)
-    in let is-own = c.opened-alive.ensures.kept i c.in-Some.ensures.1 c.in-Some.ensures.2
-    in let there : get_or c.counted_all-own.result i No ≢ No = λ e. c.in-Some.ensures.2 (is-own ∙ e)
+    in let opens = going.some i c.in-Some.ensures.1 c.in-Some.ensures.2
+    in let is-own = c.opened-ways.ensures.kept i c.in-Some.ensures.1 opens
+    in let there : get_or c.counted_all-own.result i No ≢ No = λ e. opens (is-own ∙ e)
     in let some = own.some i c.in-Some.ensures.1 there
     in let within = all.within i c.in-Some.ensures.1 some
     in let is-put = put-kept v (rest ++ w ∷ []) (first + i) a c.loop-i.a placed c.loop-i.invariant.1 c.set.ensures.places
@@ -481,7 +500,7 @@ walk_chunk-loop-i-preserved t c =
     with-own (c.counted_all-word.ensures.counted (length rest) true steps)
     in let stays = stays-on s c.args.evaluator.now c.loop-i.evaluator c.counted_all-word.new.evaluator c.loop-i.invariant.0 c.counted_all-word.ensures.stays
     in let passed = open-passed trial is v rest a c.args.tail c.as_slice-steps.result.now c.requires.walk steps k c.of-all.result
-    c.counted_all-own.result c.opened-alive.result all own c.opened-alive.ensures c.loop-i.from i (omega (arith, c.in-Some.ensures.1))
+    c.counted_all-own.result c.opened-ways.result c.going_on-alive.result all own c.opened-ways.ensures going c.requires.chunk c.loop-i.from i (omega (arith, c.in-Some.ensures.1))
     c.in-Some.ensures.3
     in (
       stays,
@@ -512,6 +531,8 @@ walk_chunk-returns-clause-told t c =
     in let w = trial.last.0
     in let first = 64 * k
     in let a = c.args.a.now
+    in let going = subst (λ n. IsGoingOn trial.later.now n c.args.tail c.opened-ways.result c.going_on-alive.result)
+    (sym (length-map c.args.rest.now (λ (x : Var). x.0))) c.going_on-alive.ensures
     in let on = left-on trial v rest c.requires.walk.left
     in let found = subst (λ n. slice_get trial.shape.now.levels n ≡ Some c.level_of-level.result.now)
     (sym (length-map c.args.rest.now (λ (x : Var). x.0))) c.level_of-level.ensures
@@ -522,7 +543,7 @@ walk_chunk-returns-clause-told t c =
     in let steps = subst (AreSteps ms (length rest) true) (sym c.as_slice-steps.ensures)
     (level-last trial is rest on c.level_of-level.result.now found)
     in let passed = open-passed trial is v rest a c.args.tail c.as_slice-steps.result.now c.requires.walk steps k c.of-all.result
-    c.counted_all-own.result c.opened-alive.result all own c.opened-alive.ensures c.loop-i.from 64 (omega arith) c.in_default.ensures
+    c.counted_all-own.result c.opened-ways.result c.going_on-alive.result all own c.opened-ways.ensures going c.requires.chunk c.loop-i.from 64 (omega arith) c.in_default.ensures
     in told-both trial
     (AreTriedFor trial (λ b. GoesOnIn trial (v ∷ rest ++ w ∷ []) (assignment_of a) b × IsBetween v first (first + c.loop-i.from) b))
     (AreTriedFor trial (λ b. GoesOnIn trial (v ∷ rest ++ w ∷ []) (assignment_of a) b × IsBetween v (first + c.loop-i.from) (first + 64) b))

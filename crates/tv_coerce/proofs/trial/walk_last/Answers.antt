@@ -47,7 +47,7 @@ walk-requires-clause-walk c =
     in let all = all-word trial.structure.now.size trial.chunk c.places.result c.args.own c.of-all.result
     (c.places.ensures.value ∙ ap (λ n. min 64 (n - 64 * trial.chunk)) c.size.ensures.size) c.requires.chunk c.of-all.ensures
     in start-first trial is before c.args.a.now c.args.own c.of-all.result c.counted_all-tail.result c.requires.variables c.requires.chunk
-    c.requires.some
+    c.requires.narrowed c.requires.some
     (λ e. subst (CountTells (Lacks (IsAt (length before) false) trial.structure.now a ms) (IsIdle (IsAt (length before) false) trial.structure.now a ms)) e
     c.requires.own)
     all (c.counted_all-tail.ensures.counted (length before) true steps)
@@ -66,7 +66,7 @@ returns-then-is_no-clause-told c =
     in let all = all-word trial.structure.now.size trial.chunk c.places.result c.args.own c.of-all.result
     (c.places.ensures.value ∙ ap (λ n. min 64 (n - 64 * trial.chunk)) c.size.ensures.size) c.requires.chunk c.of-all.ensures
     in let start = start-first trial is before c.args.a.now c.args.own c.of-all.result c.counted_all-tail.result c.requires.variables c.requires.chunk
-    c.requires.some
+    c.requires.narrowed c.requires.some
     (λ e. subst (CountTells (Lacks (IsAt (length before) false) trial.structure.now a ms) (IsIdle (IsAt (length before) false) trial.structure.now a ms)) e
     c.requires.own)
     all (c.counted_all-tail.ensures.counted (length before) true steps)

@@ -1,6 +1,6 @@
 -- The values of the parts make up the value of the whole.
 use Rattle.std.proofs.Common.{rules, List, ⊎_elim, ℕ, ◌≡◌, ◌<◌, ◌+◌, ◌-◌, ◌*◌, ◌∙◌, inl, inr, [], length, map}
-use Rattle.std.proofs.Common.{min, get_or}
+use Rattle.std.proofs.Common.{min, get_or, drop, ◌∷◌, ne_eqb}
 use Rattle.std.proofs.Common.{refl}
 use Rattle.std.proofs.Common.{sym, ap, subst, arith}
 use Rattle.std.specs.List.{range_with_len}
@@ -41,11 +41,20 @@ use Rattle.tv_eval.proofs.Parts.{individual_of, rooms-split, SplitsRooms, can-pu
 use Rattle.tv_eval.proofs.Parts.{put-again, total-again, row-iff, row-cond, row-put}
 use Rattle.tv_eval.proofs.Parts.{row-steady}
 use Rattle.tv_quantifiers.proofs.Quantifying.{quantified-value}
-use Rattle.tv_quantifiers.specs.Runs.{AreVariables, AreWithin, under_run}
-use Rattle.tv_quantifiers.proofs.Running.{fresh-within}
+use Rattle.tv_quantifiers.specs.Runs.{under_run}
+use Rattle.tv_quantifiers.proofs.Running.{fresh-within, owed-fresh, range-all}
 use Rattle.tv_quantifiers.proofs.Opening.{formula-over}
 use Rattle.tv_model.specs.Valid.{IsFormulaOver}
-use Rattle.tv_eval.proofs.Runs.{are-variables, can-open, owed-first}
+use Rattle.tv_eval.proofs.Runs.{are-variables, can-open}
+use Rattle.tv_eval.proofs.Linked.{can-take-first, can-take-two, least-chosen, least-other, least-two}
+use Rattle.tv_eval.proofs.Linked.{linked-drop}
+use Rattle.tv_eval.proofs.Linked.{linked-next, linked-whole, none-left, outer-variable, parts-are, rest-long}
+use Rattle.tv_eval.proofs.Linked.{rest-none, rest-same, take-put, take-split, two-behind, values-all}
+use Rattle.tv_eval.proofs.Linked.{values-next}
+use Rattle.tv_eval.proofs.Linked.{values-none}
+use Rattle.tv_eval.specs.Linked.{CanTake, rest_along}
+use Rattle.tv_quantifiers.specs.Chains.{AreLinked, best, is_taken, least_part, parts_of, pushed}
+use Rattle.tv_quantifiers.specs.Runs.{AreFresh}
 use Rattle.tv_eval.proofs.values.+values.Goals as goal
 
 pub value_of-returns-in-Exists-clause-exact : goal.value_of-returns-in-Exists-clause-exact
@@ -814,48 +823,368 @@ closure_word-closure-requires t c = (
   ),
 )
 
-pub run-loop-whole-init : goal.run-loop-whole-init
-run-loop-whole-init t c = (
-  refl,
-  c.requires.kept,
-  fresh-within c.args.s.now.size c.opened-levels.result.0.items c.requires.some c.opened-levels.ensures.run.fresh,
-  can-open c.args.q c.args.s.now c.args.a.now (sizes_of c.args.rooms.now) c.args.v.0 (form_of c.args.body.now)
-      (form_of c.opened-levels.result.1.now) c.opened-levels.result.0.items c.requires.parts
-      c.opened-levels.ensures.run,
-  c.opened-levels.ensures.part,
-  owed-first c.args.q c.args.s.now c.args.a.now c.args.v.0 (form_of c.args.body.now)
-      (form_of c.opened-levels.result.1.now) c.opened-levels.result.0.items c.requires.some
-      c.opened-levels.ensures.run,
+pub run-link_by_link-requires : goal.run-link_by_link-requires
+run-link_by_link-requires t c = (
+  omega (arith, c.opened-levels.ensures.part, c.decreases),
+  (
+    subst (λ ls. CanEvaluate c.args.s.now c.args.a.now (sizes_of c.args.rooms.now) (under_run ls (form_of c.opened-levels.result.1.now)))
+        (sym c.as_slice-chain.ensures.value) (can-open c.args.q c.args.s.now c.args.a.now (sizes_of c.args.rooms.now) c.args.v.0 (form_of c.args.body.now) (form_of c.opened-levels.result.1.now) c.opened-levels.result.0.items c.requires.parts c.opened-levels.ensures.run),
+    (c.requires.some, (omega arith, (c.are_linked.ensures c.if-are_linked.true, c.requires.kept))),
+  ),
 )
 
-pub run-at_hand-here-requires : goal.run-at_hand-here-requires
-run-at_hand-here-requires t c =
-    subst AreVariables (sym c.as_slice.ensures.value)
-    (are-variables (arities_of c.args.s.now) c.loop-whole.levels.items (form_of c.opened-levels.result.1.now)
-    c.loop-whole.invariant.3.formula)
+pub run-returns-then-are_linked-clause-exact : goal.run-returns-then-are_linked-clause-exact
+run-returns-then-are_linked-clause-exact t c =
+    c.link_by_link.ensures.exact
+    ∙ ap (λ ls. value (structure_of c.args.s.now) (assignment_of c.args.a.now) (under_run ls (form_of c.opened-levels.result.1.now))) c.as_slice-chain.ensures.value
+    ∙ c.opened-levels.ensures.run.values (structure_of c.args.s.now) (assignment_of c.args.a.now) 0 (range_with_len (0 + 1) (c.args.s.now.size - (0 + 1))) (range-all c.args.s.now.size c.requires.some)
 
-pub run-value_of-value-requires : goal.run-value_of-value-requires
-run-value_of-value-requires t c = (
-  omega (arith, c.loop-whole.invariant.4, c.decreases),
+pub run-one_by_one-requires : goal.run-one_by_one-requires
+run-one_by_one-requires t c = (
+  omega (arith, c.opened-levels.ensures.part, c.decreases),
   (
-    subst (λ sizes. CanEvaluate c.args.s.now c.at_hand-here.result sizes (form_of c.opened-levels.result.1.now))
-        (sym c.loop-whole.invariant.0)
-        (c.at_hand-here.ensures.parts c.args.s.now (sizes_of c.args.rooms.now)
-        (form_of c.opened-levels.result.1.now)
-        (subst (AreWithin c.args.s.now.size) (sym c.as_slice.ensures.value) c.loop-whole.invariant.2)
-        (subst (λ ls. CanEvaluate c.args.s.now c.args.a.now (sizes_of c.args.rooms.now)
-        (under_run ls (form_of c.opened-levels.result.1.now))) (sym c.as_slice.ensures.value)
-        c.loop-whole.invariant.3)),
+    subst (λ ls. CanEvaluate c.args.s.now c.args.a.now (sizes_of c.args.rooms.now) (under_run ls (form_of c.opened-levels.result.1.now)))
+        (sym c.as_mut_slice.ensures.value) (can-open c.args.q c.args.s.now c.args.a.now (sizes_of c.args.rooms.now) c.args.v.0 (form_of c.args.body.now) (form_of c.opened-levels.result.1.now) c.opened-levels.result.0.items c.requires.parts c.opened-levels.ensures.run),
+    (c.requires.some, (subst AreFresh (sym c.as_mut_slice.ensures.value) c.opened-levels.ensures.run.fresh, c.requires.kept)),
+  ),
+)
+
+pub run-returns-clause-exact : goal.run-returns-clause-exact
+run-returns-clause-exact t c =
+    c.one_by_one.ensures.exact
+    ∙ ap (λ ls. value (structure_of c.args.s.now) (assignment_of c.args.a.now) (under_run ls (form_of c.opened-levels.result.1.now))) c.as_mut_slice.ensures.value
+    ∙ c.opened-levels.ensures.run.values (structure_of c.args.s.now) (assignment_of c.args.a.now) 0 (range_with_len (0 + 1) (c.args.s.now.size - (0 + 1))) (range-all c.args.s.now.size c.requires.some)
+
+pub one_by_one-loop-whole-init : goal.one_by_one-loop-whole-init
+one_by_one-loop-whole-init t c = (
+  refl,
+  c.requires.kept,
+  fresh-within c.args.s.now.size c.args.levels.now c.requires.some c.requires.fresh,
+  c.requires.parts,
+  owed-fresh (structure_of c.args.s.now) c.args.s.now.size refl c.args.levels.now (assignment_of c.args.a.now) (form_of c.args.part.now) c.requires.some c.requires.fresh,
+)
+
+pub one_by_one-at_hand-here-requires : goal.one_by_one-at_hand-here-requires
+one_by_one-at_hand-here-requires t c =
+    are-variables (arities_of c.args.s.now) c.loop-whole.levels (form_of c.args.part.now) c.loop-whole.invariant.3.formula
+
+pub one_by_one-value_of-value-requires : goal.one_by_one-value_of-value-requires
+one_by_one-value_of-value-requires t c = (
+  omega (arith, c.decreases),
+  (
+    subst (λ sizes. CanEvaluate c.args.s.now c.at_hand-here.result sizes (form_of c.args.part.now)) (sym c.loop-whole.invariant.0)
+        (c.at_hand-here.ensures.parts c.args.s.now (sizes_of c.args.rooms.now) (form_of c.args.part.now) c.loop-whole.invariant.2
+        c.loop-whole.invariant.3),
     c.loop-whole.invariant.1,
   ),
 )
 
-pub run-advance-requires : goal.run-advance-requires
-run-advance-requires t c =
-    rw (c.as_mut_slice.ensures.value, c.size.ensures.size) c.loop-whole.invariant.2
+pub one_by_one-returns-in-Some-clause-rooms : goal.one_by_one-returns-in-Some-clause-rooms
+one_by_one-returns-in-Some-clause-rooms t c = c.value_of-value.ensures.rooms ∙ c.loop-whole.invariant.0
 
-pub run-returns-in-Some-clause-rooms : goal.run-returns-in-Some-clause-rooms
-run-returns-in-Some-clause-rooms t c = c.value_of-value.ensures.rooms ∙ c.loop-whole.invariant.0
+pub link_by_link-loop-k-init : goal.link_by_link-loop-k-init
+link_by_link-loop-k-init t c = (
+  refl,
+  c.requires.kept,
+  omega arith,
+  λ level inner e.
+      subst (λ ls. c.of-row.result ≡ rest_along c.args.s.now (assignment_of c.args.a.now) c.args.sign level.var.0 ls (parts_of c.args.sign (form_of c.args.part.now)))
+      (sym (none-left (length c.args.levels.now - 1) c.args.levels.now inner level e (omega arith)))
+      (rest-none c.args.s.now (assignment_of c.args.a.now) c.args.sign level.var.0 c.size.result (parts_of c.args.sign (form_of c.args.part.now))
+      c.of-row.result c.of-row.ensures c.size.ensures.size),
+)
+
+pub link_by_link-linked_row-row-requires : goal.link_by_link-linked_row-row-requires
+link_by_link-linked_row-row-requires t c =
+    let k : ℕ = c.loop-k.k
+    in let behind : drop (k - 1) c.args.levels.now ≡ c.at.result.level ∷ c.at-link.result.level ∷ c.at-link.result.inner.now =
+    two-behind (k - 1) k c.args.levels.now c.at.result.inner.now c.at-link.result.inner.now c.at.result.level
+    c.at-link.result.level (omega arith) c.at.ensures.levels c.at-link.ensures.levels
+    in let inside : c.at-link.result.is_first ≡ false = c.at-link.ensures.first ∙ ne_eqb k 0 (λ e. omega arith)
+    in (
+      search rules,
+      (
+        subst (λ sizes. CanTake c.args.s.now c.args.a.now sizes
+            (is_taken c.at-link.result.is_first c.at-link.result.level.var.0 c.at-link.result.inner.now)
+            (λ g. FExists c.at.result.level.var.0 (FExists c.at-link.result.level.var.0 g)) (parts_of c.args.sign (form_of c.args.part.now)))
+            (sym c.loop-k.invariant.0)
+            (can-take-two c.args.s.now c.args.a.now (sizes_of c.args.rooms.now) c.args.levels.now (form_of c.args.part.now) c.requires.parts
+            (k - 1) c.at-link.result.inner.now c.at.result.level c.at-link.result.level c.at-link.result.is_first
+            (parts_of c.args.sign (form_of c.args.part.now)) behind inside c.requires.linked (parts-are c.args.sign (form_of c.args.part.now))),
+        (
+          outer-variable c.args.s.now c.args.a.now (sizes_of c.args.rooms.now) c.args.levels.now (form_of c.args.part.now) c.requires.parts
+              (k - 1) c.at.result.inner.now c.at.result.level c.at.ensures.levels,
+          (
+            inside,
+            (
+              subst (λ ls. AreLinked ls (parts_of c.args.sign (form_of c.args.part.now))) behind
+                  (linked-drop (k - 1) c.args.levels.now (parts_of c.args.sign (form_of c.args.part.now)) c.requires.linked),
+              (
+                c.loop-k.invariant.3 c.at-link.result.level c.at-link.result.inner.now c.at-link.ensures.levels,
+                c.loop-k.invariant.1,
+              ),
+            ),
+          ),
+        ),
+      ),
+    )
+
+pub link_by_link-loop-k-preserved : goal.link_by_link-loop-k-preserved
+link_by_link-loop-k-preserved t c =
+    let k : ℕ = c.loop-k.k
+    in let behind : drop (k - 1) c.args.levels.now ≡ c.at.result.level ∷ c.at-link.result.level ∷ c.at-link.result.inner.now =
+    two-behind (k - 1) k c.args.levels.now c.at.result.inner.now c.at-link.result.inner.now c.at.result.level
+    c.at-link.result.level (omega arith) c.at.ensures.levels c.at-link.ensures.levels
+    in (
+      c.linked_row-row.ensures.rooms ∙ c.loop-k.invariant.0,
+      c.linked_row-row.ensures.kept,
+      omega arith,
+      λ level inner e. rest-same c.args.s.now (assignment_of c.args.a.now) c.args.sign (parts_of c.args.sign (form_of c.args.part.now))
+          (drop (k - 1) c.args.levels.now) (c.at-link.result.level ∷ c.at-link.result.inner.now) inner c.at.result.level level
+          c.linked_row-row.result behind e c.linked_row-row.ensures.exact,
+    )
+
+pub link_by_link-linked_value-requires : goal.link_by_link-linked_value-requires
+link_by_link-linked_value-requires t c =
+    let none : c.loop-k.k ≡ 0 = omega arith
+    in (
+      search rules,
+      (
+        subst (λ sizes. CanTake c.args.s.now c.args.a.now sizes
+            (is_taken c.at-first.result.is_first c.at-first.result.level.var.0 c.at-first.result.inner.now)
+            (λ g. FExists c.at-first.result.level.var.0 g) (parts_of c.args.sign (form_of c.args.part.now)))
+            (sym c.loop-k.invariant.0)
+            (can-take-first c.args.s.now c.args.a.now (sizes_of c.args.rooms.now) c.args.levels.now (form_of c.args.part.now) c.requires.parts
+            c.at-first.result.inner.now c.at-first.result.level c.at-first.result.is_first
+            (parts_of c.args.sign (form_of c.args.part.now)) c.at-first.ensures.levels c.at-first.ensures.first (parts-are c.args.sign (form_of c.args.part.now))),
+        (
+          rest-long c.args.s.now (assignment_of c.args.a.now) c.args.sign c.at-first.result.level.var.0 c.at-first.result.inner.now
+              (parts_of c.args.sign (form_of c.args.part.now)) c.loop-k.row
+              (c.loop-k.invariant.3 c.at-first.result.level c.at-first.result.inner.now
+              (subst (λ j. drop j c.args.levels.now ≡ c.at-first.result.level ∷ c.at-first.result.inner.now) (sym none)
+              c.at-first.ensures.levels)),
+          c.loop-k.invariant.1,
+        ),
+      ),
+    )
+
+pub link_by_link-returns-clause-exact : goal.link_by_link-returns-clause-exact
+link_by_link-returns-clause-exact t c =
+    let none : c.loop-k.k ≡ 0 = omega arith
+    in linked-whole c.args.s.now (assignment_of c.args.a.now) c.args.sign (form_of c.args.part.now) c.args.levels.now c.at-first.result.inner.now c.at-first.result.level
+    c.at-first.result.is_first c.loop-k.row c.linked_value.result c.turned.result c.requires.some c.at-first.ensures.levels
+    c.at-first.ensures.first
+    (c.loop-k.invariant.3 c.at-first.result.level c.at-first.result.inner.now
+    (subst (λ j. drop j c.args.levels.now ≡ c.at-first.result.level ∷ c.at-first.result.inner.now) (sym none)
+    c.at-first.ensures.levels))
+    c.linked_value.ensures.exact c.turned.ensures
+
+pub linked_row-loop-u-init : goal.linked_row-loop-u-init
+linked_row-loop-u-init t c = (
+  refl,
+  c.requires.kept,
+  values-none c.args.s.now.size c.size.result (λ w. pushed c.args.sign (structure_of c.args.s.now) (put (assignment_of c.args.a.now) c.args.outer.var.0 w)
+      (c.args.link.level ∷ c.args.link.inner.now) (parts_of c.args.sign (form_of c.args.part.now))) c.of-values.result c.of-values.ensures c.size.ensures.size,
+  like-itself c.args.a.now c.args.outer.var.0,
+)
+
+pub linked_row-linked_value-value-requires : goal.linked_row-linked_value-value-requires
+linked_row-linked_value-value-requires t c = (
+  search rules,
+  (
+    subst (λ sizes. CanTake c.args.s.now c.set.new.self sizes (is_taken c.args.link.is_first c.args.link.level.var.0 c.args.link.inner.now) (λ g. FExists c.args.link.level.var.0 g)
+        (parts_of c.args.sign (form_of c.args.part.now))) (sym c.loop-u.invariant.0)
+        (take-put c.args.s.now c.args.a.now c.set.new.self (sizes_of c.args.rooms.now) (is_taken c.args.link.is_first c.args.link.level.var.0 c.args.link.inner.now) c.args.outer.var.0
+        c.args.link.level.var.0 c.loop-u.u (parts_of c.args.sign (form_of c.args.part.now)) c.requires.parts (omega arith)
+        (put-again c.args.a.now c.loop-u.here c.set.new.self c.args.outer.var.0 c.loop-u.u c.loop-u.invariant.3
+        c.set.ensures.places)),
+    (
+      rest-long c.args.s.now (assignment_of c.args.a.now) c.args.sign c.args.link.level.var.0 c.args.link.inner.now (parts_of c.args.sign (form_of c.args.part.now))
+          c.args.row.now c.requires.row,
+      c.loop-u.invariant.1,
+    ),
+  ),
+)
+
+pub linked_row-loop-u-preserved : goal.linked_row-loop-u-preserved
+linked_row-loop-u-preserved t c = (
+  c.linked_value-value.ensures.rooms ∙ c.loop-u.invariant.0,
+  c.linked_value-value.ensures.kept,
+  values-next c.args.s.now.size c.loop-u.u (λ w. pushed c.args.sign (structure_of c.args.s.now) (put (assignment_of c.args.a.now) c.args.outer.var.0 w)
+      (c.args.link.level ∷ c.args.link.inner.now) (parts_of c.args.sign (form_of c.args.part.now))) c.loop-u.values c.set-in-loop-u.new.self
+      c.linked_value-value.result c.loop-u.invariant.2 (omega arith)
+      (linked-next c.args.s.now (assignment_of c.args.a.now) (assignment_of c.set.new.self) c.args.sign c.args.link.inner.now c.args.outer c.args.link.level
+      c.args.link.is_first (parts_of c.args.sign (form_of c.args.part.now)) c.args.row.now c.loop-u.u c.linked_value-value.result
+      (total-again c.args.a.now c.loop-u.here c.set.new.self c.args.outer.var.0 c.loop-u.u c.loop-u.invariant.3
+      c.set.ensures.places)
+      c.requires.inner c.requires.linked c.requires.row c.linked_value-value.ensures.exact)
+      c.set-in-loop-u.ensures,
+  like-again c.args.a.now c.loop-u.here c.set.new.self c.args.outer.var.0 c.loop-u.u c.loop-u.invariant.3
+      c.set.ensures.places,
+)
+
+pub linked_row-returns-clause-exact : goal.linked_row-returns-clause-exact
+linked_row-returns-clause-exact t c =
+    values-all c.args.s.now.size c.loop-u.u (λ w. pushed c.args.sign (structure_of c.args.s.now) (put (assignment_of c.args.a.now) c.args.outer.var.0 w)
+    (c.args.link.level ∷ c.args.link.inner.now) (parts_of c.args.sign (form_of c.args.part.now))) c.loop-u.values c.loop-u.invariant.2 (omega arith)
+
+pub linked_value-loop-chunk-init : goal.linked_value-loop-chunk-init
+linked_value-loop-chunk-init t c =
+    let h : ℕ → K3 = λ u. smaller_of (least_part (is_taken c.args.link.is_first c.args.link.level.var.0 c.args.link.inner.now) (structure_of c.args.s.now) (put (assignment_of c.args.a.now) c.args.link.level.var.0 u)
+    (parts_of c.args.sign (form_of c.args.part.now))) (get_or c.args.row.now u No)
+    in let g : ℕ → K3 = λ u. turned c.across-q.result (h u)
+    in let whole : c.args.s.now.size - 64 * 0 ≡ c.args.s.now.size = omega arith
+    in (refl, c.requires.kept, ap (λ m. greatest_of g (range_with_len 0 m)) whole)
+
+pub linked_value-linked_word-word-requires : goal.linked_value-linked_word-word-requires
+linked_value-linked_word-word-requires t c = (
+  search rules,
+  (
+    subst (λ sizes. CanTake c.args.s.now c.args.a.now sizes (is_taken c.args.link.is_first c.args.link.level.var.0 c.args.link.inner.now) (λ g. FExists c.args.link.level.var.0 g)
+        (parts_of c.args.sign (form_of c.args.part.now))) (sym c.loop-chunk.invariant.0) c.requires.parts,
+    (omega (arith, c.chunks-chunk-end.ensures.each c.loop-chunk.chunk (omega arith), c.size.ensures.size), c.loop-chunk.invariant.1),
+  ),
+)
+
+pub linked_value-loop-chunk-preserved : goal.linked_value-loop-chunk-preserved
+linked_value-loop-chunk-preserved t c =
+    let h : ℕ → K3 = λ u. smaller_of (least_part (is_taken c.args.link.is_first c.args.link.level.var.0 c.args.link.inner.now) (structure_of c.args.s.now) (put (assignment_of c.args.a.now) c.args.link.level.var.0 u)
+    (parts_of c.args.sign (form_of c.args.part.now))) (get_or c.args.row.now u No)
+    in let g : ℕ → K3 = λ u. turned c.across-q.result (h u)
+    in let all : List ℕ = range_with_len 0 c.args.s.now.size
+    in let k : ℕ = c.loop-chunk.chunk
+    in let behind : IsWordOf c.args.s.now.size k (λ u. get_or c.args.row.now u No) c.word-behind.result =
+    record {
+      long = c.word-behind.ensures.long;
+      each = λ i low within. c.word-behind.ensures.values i low (omega (arith, c.requires.row));
+    }
+    in let next : larger_of c.or-most.result
+    (greatest_of g (range_with_len (64 * (k + 1)) (c.args.s.now.size - 64 * (k + 1)))) ≡ greatest_of g all =
+    greatest-chunk c.args.s.now.size k c.places.result g (map (turned c.across-q.result) c.linked_word-word.result)
+    (omega (arith, c.chunks-chunk-end.ensures.each k (omega arith), c.size.ensures.size)) (c.places.ensures.value ∙ (rw c.size-in-loop-chunk.ensures.size refl))
+    (mapped-word c.args.s.now.size k (turned c.across-q.result) h c.linked_word-word.result
+    (c.linked_word-word.ensures.exact (λ u. get_or c.args.row.now u No) behind))
+    c.loop-chunk.most c.greatest.result c.or-most.result (greatest_of g all) c.turned_word-turned.result
+    c.turned_word-turned.ensures c.greatest.ensures c.or-most.ensures c.loop-chunk.invariant.2
+    in (c.linked_word-word.ensures.rooms ∙ c.loop-chunk.invariant.0, c.linked_word-word.ensures.kept, next)
+
+pub linked_value-returns-then-eq-clause-exact : goal.linked_value-returns-then-eq-clause-exact
+linked_value-returns-then-eq-clause-exact t c =
+    let h : ℕ → K3 = λ u. smaller_of (least_part (is_taken c.args.link.is_first c.args.link.level.var.0 c.args.link.inner.now) (structure_of c.args.s.now) (put (assignment_of c.args.a.now) c.args.link.level.var.0 u)
+    (parts_of c.args.sign (form_of c.args.part.now))) (get_or c.args.row.now u No)
+    in let g : ℕ → K3 = λ u. turned c.across-q.result (h u)
+    in let all : List ℕ = range_with_len 0 c.args.s.now.size
+    in let k : ℕ = c.loop-chunk.chunk
+    in let behind : IsWordOf c.args.s.now.size k (λ u. get_or c.args.row.now u No) c.word-behind.result =
+    record {
+      long = c.word-behind.ensures.long;
+      each = λ i low within. c.word-behind.ensures.values i low (omega (arith, c.requires.row));
+    }
+    in let next : larger_of c.or-most.result
+    (greatest_of g (range_with_len (64 * (k + 1)) (c.args.s.now.size - 64 * (k + 1)))) ≡ greatest_of g all =
+    greatest-chunk c.args.s.now.size k c.places.result g (map (turned c.across-q.result) c.linked_word-word.result)
+    (omega (arith, c.chunks-chunk-end.ensures.each k (omega arith), c.size.ensures.size)) (c.places.ensures.value ∙ (rw c.size-in-loop-chunk.ensures.size refl))
+    (mapped-word c.args.s.now.size k (turned c.across-q.result) h c.linked_word-word.result
+    (c.linked_word-word.ensures.exact (λ u. get_or c.args.row.now u No) behind))
+    c.loop-chunk.most c.greatest.result c.or-most.result (greatest_of g all) c.turned_word-turned.result
+    c.turned_word-turned.ensures c.greatest.ensures c.or-most.ensures c.loop-chunk.invariant.2
+    in c.turned.ensures
+    ∙ ap (turned c.across-q.result) (greatest-yes g (range_with_len (64 * (k + 1)) (c.args.s.now.size - 64 * (k + 1)))
+    c.or-most.result (greatest_of g all) next (told-equal c.or-most.result Yes c.eq.result c.eq.ensures.same c.if-eq.true))
+    ∙ ap (λ q. best q h all) c.across-q.ensures
+
+pub linked_value-returns-clause-exact : goal.linked_value-returns-clause-exact
+linked_value-returns-clause-exact t c =
+    let h : ℕ → K3 = λ u. smaller_of (least_part (is_taken c.args.link.is_first c.args.link.level.var.0 c.args.link.inner.now) (structure_of c.args.s.now) (put (assignment_of c.args.a.now) c.args.link.level.var.0 u)
+    (parts_of c.args.sign (form_of c.args.part.now))) (get_or c.args.row.now u No)
+    in let g : ℕ → K3 = λ u. turned c.across-q.result (h u)
+    in let all : List ℕ = range_with_len 0 c.args.s.now.size
+    in c.turned-2.ensures
+    ∙ ap (turned c.across-q.result) (greatest-chunks c.args.s.now.size c.loop-chunk.chunk g c.loop-chunk.most
+    (greatest_of g all) (omega (arith, c.chunks-chunk-end.ensures.all, c.size.ensures.size)) c.loop-chunk.invariant.2)
+    ∙ ap (λ q. best q h all) c.across-q.ensures
+
+pub linked_word-returns-then-eq-clause-exact : goal.linked_word-returns-then-eq-clause-exact
+linked_word-returns-then-eq-clause-exact t c g is =
+    none-both c.args.s.now.size c.args.chunk g c.args.word is
+    (λ u. least_part (is_taken c.args.link.is_first c.args.link.level.var.0 c.args.link.inner.now) (structure_of c.args.s.now) (put (assignment_of c.args.a.now) c.args.link.level.var.0 u) (parts_of c.args.sign (form_of c.args.f.now)))
+    (sym c.greatest.ensures ∙ told-equal c.greatest.result No c.eq.result c.eq.ensures.same c.if-eq.true)
+
+pub linked_word-linked_word-first-requires : goal.linked_word-linked_word-first-requires
+linked_word-linked_word-first-requires t c = (
+  omega (arith, c.in-Two.ensures.lower.0, c.decreases),
+  (
+    (take-split c.args.s.now c.args.a.now (sizes_of c.args.rooms.now) (is_taken c.args.link.is_first c.args.link.level.var.0 c.args.link.inner.now) (λ g. FExists c.args.link.level.var.0 g)
+        (parts_of c.args.sign (form_of c.in-Two.g.now)) (parts_of c.args.sign (form_of c.in-Two.h.now))
+        (subst (CanTake c.args.s.now c.args.a.now (sizes_of c.args.rooms.now) (is_taken c.args.link.is_first c.args.link.level.var.0 c.args.link.inner.now) (λ g. FExists c.args.link.level.var.0 g))
+        c.in-Two.ensures.parts c.requires.parts)).0,
+    (c.requires.chunk, c.requires.kept),
+  ),
+)
+
+pub linked_word-linked_word-requires : goal.linked_word-linked_word-requires
+linked_word-linked_word-requires t c = (
+  omega (arith, c.in-Two.ensures.lower.1, c.decreases),
+  (
+    subst (λ sizes. CanTake c.args.s.now c.args.a.now sizes (is_taken c.args.link.is_first c.args.link.level.var.0 c.args.link.inner.now) (λ g. FExists c.args.link.level.var.0 g)
+        (parts_of c.args.sign (form_of c.in-Two.h.now))) (sym c.linked_word-first.ensures.rooms)
+        (take-split c.args.s.now c.args.a.now (sizes_of c.args.rooms.now) (is_taken c.args.link.is_first c.args.link.level.var.0 c.args.link.inner.now) (λ g. FExists c.args.link.level.var.0 g)
+        (parts_of c.args.sign (form_of c.in-Two.g.now)) (parts_of c.args.sign (form_of c.in-Two.h.now))
+        (subst (CanTake c.args.s.now c.args.a.now (sizes_of c.args.rooms.now) (is_taken c.args.link.is_first c.args.link.level.var.0 c.args.link.inner.now) (λ g. FExists c.args.link.level.var.0 g))
+        c.in-Two.ensures.parts c.requires.parts)).1,
+    (c.requires.chunk, c.linked_word-first.ensures.kept),
+  ),
+)
+
+pub linked_word-returns-in-Two-clause-exact : goal.linked_word-returns-in-Two-clause-exact
+linked_word-returns-in-Two-clause-exact t c g is =
+    subst (λ ps. IsWordOf c.args.s.now.size c.args.chunk (λ u. smaller_of (least_part (is_taken c.args.link.is_first c.args.link.level.var.0 c.args.link.inner.now) (structure_of c.args.s.now)
+    (put (assignment_of c.args.a.now) c.args.link.level.var.0 u) ps) (g u)) c.linked_word.result) (sym c.in-Two.ensures.parts)
+    (least-two c.args.s.now.size c.args.chunk (is_taken c.args.link.is_first c.args.link.level.var.0 c.args.link.inner.now) (structure_of c.args.s.now) (λ u. put (assignment_of c.args.a.now) c.args.link.level.var.0 u) (parts_of c.args.sign (form_of c.in-Two.g.now))
+    (parts_of c.args.sign (form_of c.in-Two.h.now)) c.args.word c.linked_word-first.result c.linked_word.result
+    c.linked_word-first.ensures.exact c.linked_word.ensures.exact g is)
+
+pub linked_word-linked_word-requires-in-Negated : goal.linked_word-linked_word-requires-in-Negated
+linked_word-linked_word-requires-in-Negated t c = (
+  omega (arith, c.in-Negated.ensures.lower, c.decreases),
+  (
+    subst (CanTake c.args.s.now c.args.a.now (sizes_of c.args.rooms.now) (is_taken c.args.link.is_first c.args.link.level.var.0 c.args.link.inner.now) (λ g. FExists c.args.link.level.var.0 g))
+        (c.in-Negated.ensures.parts ∙ ap (λ sign. parts_of sign (form_of c.in-Negated.g.now)) (sym c.other.ensures.other))
+        c.requires.parts,
+    (c.requires.chunk, c.requires.kept),
+  ),
+)
+
+pub linked_word-returns-in-Negated-clause-exact : goal.linked_word-returns-in-Negated-clause-exact
+linked_word-returns-in-Negated-clause-exact t c g is =
+    subst (λ ps. IsWordOf c.args.s.now.size c.args.chunk (λ u. smaller_of (least_part (is_taken c.args.link.is_first c.args.link.level.var.0 c.args.link.inner.now) (structure_of c.args.s.now)
+    (put (assignment_of c.args.a.now) c.args.link.level.var.0 u) ps) (g u)) c.linked_word-in-Negated.result)
+    (sym (c.in-Negated.ensures.parts ∙ ap (λ sign. parts_of sign (form_of c.in-Negated.g.now)) (sym c.other.ensures.other)))
+    (c.linked_word-in-Negated.ensures.exact g is)
+
+pub linked_word-returns-then-not-takes-clause-exact : goal.linked_word-returns-then-not-takes-clause-exact
+linked_word-returns-then-not-takes-clause-exact t c g is =
+    subst (λ ps. IsWordOf c.args.s.now.size c.args.chunk (λ u. smaller_of (least_part (is_taken c.args.link.is_first c.args.link.level.var.0 c.args.link.inner.now) (structure_of c.args.s.now)
+    (put (assignment_of c.args.a.now) c.args.link.level.var.0 u) ps) (g u)) c.args.word) (sym c.in-Whole.ensures.parts)
+    (least-other c.args.s.now.size c.args.chunk (is_taken c.args.link.is_first c.args.link.level.var.0 c.args.link.inner.now) (structure_of c.args.s.now) (λ u. put (assignment_of c.args.a.now) c.args.link.level.var.0 u)
+    (record { sign = c.args.sign; form = form_of c.args.f.now }) c.args.word (sym c.takes.ensures ∙ c.if-not-takes.true) g is)
+
+pub linked_word-word_of-values-requires : goal.linked_word-word_of-values-requires
+linked_word-word_of-values-requires t c =
+    let can : CanTake c.args.s.now c.args.a.now (sizes_of c.args.rooms.now) (is_taken c.args.link.is_first c.args.link.level.var.0 c.args.link.inner.now) (λ g. FExists c.args.link.level.var.0 g)
+    (record { sign = c.args.sign; form = form_of c.args.f.now } ∷ []) =
+    subst (CanTake c.args.s.now c.args.a.now (sizes_of c.args.rooms.now) (is_taken c.args.link.is_first c.args.link.level.var.0 c.args.link.inner.now) (λ g. FExists c.args.link.level.var.0 g))
+    c.in-Whole.ensures.parts c.requires.parts
+    in (search rules, (can.0 (sym c.takes.ensures ∙ c.if-not-takes.false), (c.requires.chunk, c.requires.kept)))
+
+pub linked_word-returns-else-not-takes-clause-exact : goal.linked_word-returns-else-not-takes-clause-exact
+linked_word-returns-else-not-takes-clause-exact t c g is =
+    subst (λ ps. IsWordOf c.args.s.now.size c.args.chunk (λ u. smaller_of (least_part (is_taken c.args.link.is_first c.args.link.level.var.0 c.args.link.inner.now) (structure_of c.args.s.now)
+    (put (assignment_of c.args.a.now) c.args.link.level.var.0 u) ps) (g u)) c.and.result) (sym c.in-Whole.ensures.parts)
+    (least-chosen c.args.s.now.size c.args.chunk (is_taken c.args.link.is_first c.args.link.level.var.0 c.args.link.inner.now) (structure_of c.args.s.now) (λ u. put (assignment_of c.args.a.now) c.args.link.level.var.0 u)
+    (record { sign = c.args.sign; form = form_of c.args.f.now }) c.places.result c.args.word c.word_of-values.result
+    c.turned_word.result c.and.result (sym c.takes.ensures ∙ c.if-not-takes.false) (c.places.ensures.value ∙ (rw c.size.ensures.size refl))
+    c.word_of-values.ensures.exact c.turned_word.ensures c.and.ensures g is)
 
 pub quantify-returns-in-Some-clause-exact : goal.quantify-returns-in-Some-clause-exact
 quantify-returns-in-Some-clause-exact t c =

@@ -1,5 +1,5 @@
 -- Each function goes down the formula.
-use Rattle.std.proofs.Common.{ℕ, ◌≡◌, ◌+◌, ◌-◌, ◌*◌, ◌<◌, ◌≤◌, max, [], length, get_or}
+use Rattle.std.proofs.Common.{ℕ, ◌≡◌, ◌+◌, ◌-◌, ◌*◌, ◌<◌, ◌≤◌, max, List, [], ◌∷◌, drop, length, get_or}
 use Rattle.tv_model.specs.Form.{form_of, height}
 use Rattle.tv_model.specs.Truth.{put}
 use Rattle.tv_row.specs.Places.{entry_in}
@@ -8,63 +8,67 @@ use Rattle.tv_eval_laws.specs.Value.{value, greatest_of}
 use Rattle.std.specs.List.{range_with_len}
 use Rattle.tv_kleene.specs.declared.K3.{K3}
 use Rattle.tv_kleene.specs.declared.K3.TheVariants.{No}
-use Rattle.tv_kleene.specs.Kleene.{larger_of}
+use Rattle.tv_kleene.specs.Kleene.{larger_of, smaller_of}
 use Rattle.tv_eval.specs.AssignmentForm.{assignment_of}
 use Rattle.tv_eval.specs.Formulas.{sizes_of}
 use Rattle.tv_eval.specs.Keeps.{HoldsClosures}
 use Rattle.tv_eval.specs.CanEvaluate.{CanEvaluate}
-use Rattle.tv_quantifiers.specs.Quantified.{quantified, turned}
+use Rattle.tv_quantifiers.specs.Quantified.{turned}
 use Rattle.tv_quantifiers.specs.Runs.{AreWithin, left, owed, placed, under_run}
 use Rattle.tv_eval.proofs.AlongWords.{HasWords, JoinedTo}
 use Rattle.tv_eval.proofs.Capping.{StandsTo}
 use Rattle.tv_eval.proofs.Parts.{IsLike}
+use Rattle.tv_eval.proofs.Linked.{HasValues}
+use Rattle.tv_eval.specs.Linked.{rest_along}
+use Rattle.tv_quantifiers.specs.Chains.{is_taken, least_part, parts_of, pushed}
+use Rattle.tv_quantifiers.specs.declared.runs.Level.{Level}
 use Rattle.tv_eval.proofs.values.+values.Given as goal
 
 abbrev pub decreases-value_of : goal.decreases-value_of
-decreases-value_of l = 8 * height (form_of l.f.now)
+decreases-value_of l = 16 * height (form_of l.f.now)
 
 abbrev pub decreases-both : goal.decreases-both
-decreases-both l = 8 * max (height (form_of l.g.now)) (height (form_of l.h.now)) + 7
+decreases-both l = 16 * max (height (form_of l.g.now)) (height (form_of l.h.now)) + 7
 
 abbrev pub decreases-either : goal.decreases-either
-decreases-either l = 8 * max (height (form_of l.g.now)) (height (form_of l.h.now)) + 7
+decreases-either l = 16 * max (height (form_of l.g.now)) (height (form_of l.h.now)) + 7
 
 abbrev pub decreases-alike : goal.decreases-alike
-decreases-alike l = 8 * max (height (form_of l.g.now)) (height (form_of l.h.now)) + 7
+decreases-alike l = 16 * max (height (form_of l.g.now)) (height (form_of l.h.now)) + 7
 
 abbrev pub decreases-choice : goal.decreases-choice
 decreases-choice l =
-    8 * max (height (form_of l.c.now)) (max (height (form_of l.g.now)) (height (form_of l.h.now))) + 7
+    16 * max (height (form_of l.c.now)) (max (height (form_of l.g.now)) (height (form_of l.h.now))) + 7
 
 abbrev pub decreases-quantify : goal.decreases-quantify
-decreases-quantify l = 8 * height (form_of l.body.now) + 7
+decreases-quantify l = 16 * height (form_of l.body.now) + 13
 
 abbrev pub decreases-quantify_anew : goal.decreases-quantify_anew
-decreases-quantify_anew l = 8 * height (form_of l.body.now) + 6
+decreases-quantify_anew l = 16 * height (form_of l.body.now) + 12
 
 abbrev pub decreases-closure : goal.decreases-closure
-decreases-closure l = 8 * height (form_of l.edges.body.now) + 7
+decreases-closure l = 16 * height (form_of l.edges.body.now) + 7
 
 abbrev pub decreases-closed_part : goal.decreases-closed_part
-decreases-closed_part l = 8 * height (form_of l.edges.body.now) + 6
+decreases-closed_part l = 16 * height (form_of l.edges.body.now) + 6
 
 abbrev pub decreases-fill : goal.decreases-fill
-decreases-fill l = 8 * height (form_of l.edges.body.now) + 5
+decreases-fill l = 16 * height (form_of l.edges.body.now) + 5
 
 abbrev pub decreases-row_of : goal.decreases-row_of
-decreases-row_of l = 8 * height (form_of l.f.now) + 4
+decreases-row_of l = 16 * height (form_of l.f.now) + 4
 
 abbrev pub decreases-word_of : goal.decreases-word_of
-decreases-word_of l = 8 * height (form_of l.f.now) + 3
+decreases-word_of l = 16 * height (form_of l.f.now) + 3
 
 abbrev pub decreases-by_values : goal.decreases-by_values
-decreases-by_values l = 8 * height (form_of l.f.now) + 1
+decreases-by_values l = 16 * height (form_of l.f.now) + 1
 
 abbrev pub decreases-words_both : goal.decreases-words_both
-decreases-words_both l = 8 * max (height (form_of l.g.now)) (height (form_of l.h.now)) + 7
+decreases-words_both l = 16 * max (height (form_of l.g.now)) (height (form_of l.h.now)) + 7
 
 abbrev pub decreases-words_either : goal.decreases-words_either
-decreases-words_either l = 8 * max (height (form_of l.g.now)) (height (form_of l.h.now)) + 7
+decreases-words_either l = 16 * max (height (form_of l.g.now)) (height (form_of l.h.now)) + 7
 
 -- the rows so far have their edges
 abbrev pub invariant-fill-loop-u : goal.invariant-fill-loop-u
@@ -93,17 +97,17 @@ abbrev pub decreases-by_values-loop-i : goal.decreases-by_values-loop-i
 decreases-by_values-loop-i l = 64 - l.from
 
 abbrev pub decreases-words_alike : goal.decreases-words_alike
-decreases-words_alike l = 8 * max (height (form_of l.g.now)) (height (form_of l.h.now)) + 7
+decreases-words_alike l = 16 * max (height (form_of l.g.now)) (height (form_of l.h.now)) + 7
 
 abbrev pub decreases-words_choice : goal.decreases-words_choice
-decreases-words_choice l = 8 * max (height (form_of l.c.now))
+decreases-words_choice l = 16 * max (height (form_of l.c.now))
     (max (height (form_of l.g.now)) (height (form_of l.h.now))) + 7
 
 abbrev pub decreases-quantified_word : goal.decreases-quantified_word
-decreases-quantified_word l = 8 * height (form_of l.body.now) + 10
+decreases-quantified_word l = 16 * height (form_of l.body.now) + 18
 
 abbrev pub decreases-closure_word : goal.decreases-closure_word
-decreases-closure_word l = 8 * height (form_of l.edges.body.now) + 8
+decreases-closure_word l = 16 * height (form_of l.edges.body.now) + 8
 
 -- the greatest value of the words so far, with the greatest of the others, gives the whole
 abbrev pub invariant-quantify_anew-loop-chunk : goal.invariant-quantify_anew-loop-chunk
@@ -137,19 +141,65 @@ abbrev pub decreases-quantified_word-loop-x : goal.decreases-quantified_word-loo
 decreases-quantified_word-loop-x l = length l.caps - l.from
 
 abbrev pub decreases-run : goal.decreases-run
-decreases-run l = 8 * height (form_of l.body.now) + 5
+decreases-run l = 16 * height (form_of l.body.now) + 11
+
+abbrev pub decreases-one_by_one : goal.decreases-one_by_one
+decreases-one_by_one l = 16 * height (form_of l.part.now) + 5
 
 -- what is found with what is owed gives the whole
-abbrev pub invariant-run-loop-whole : goal.invariant-run-loop-whole
-invariant-run-loop-whole l =
+abbrev pub invariant-one_by_one-loop-whole : goal.invariant-one_by_one-loop-whole
+invariant-one_by_one-loop-whole l =
     (sizes_of l.rooms ≡ sizes_of l.initial.rooms)
     × HoldsClosures l.s l.kept l.shared
-    × AreWithin l.s.size l.levels.items
-    × CanEvaluate l.s l.a (sizes_of l.initial.rooms) (under_run l.levels.items (form_of l.part))
-    × (height (form_of l.part) ≤ height (form_of l.body))
-    × (owed (structure_of l.s) l.s.size (assignment_of l.a) l.levels.items (form_of l.part)
-    (value (structure_of l.s) (placed (assignment_of l.a) l.levels.items) (form_of l.part))
-    ≡ value (structure_of l.s) (assignment_of l.a) (quantified l.fn.q l.fn.v.0 (form_of l.body)))
+    × AreWithin l.s.size l.levels
+    × CanEvaluate l.s l.a (sizes_of l.initial.rooms) (under_run l.levels (form_of l.part))
+    × (owed (structure_of l.s) l.s.size (assignment_of l.a) l.levels (form_of l.part)
+    (value (structure_of l.s) (placed (assignment_of l.a) l.levels) (form_of l.part))
+    ≡ value (structure_of l.s) (assignment_of l.a) (under_run l.initial.levels (form_of l.part)))
 
-abbrev pub decreases-run-loop-whole : goal.decreases-run-loop-whole
-decreases-run-loop-whole l = left l.s.size l.levels.items
+abbrev pub decreases-one_by_one-loop-whole : goal.decreases-one_by_one-loop-whole
+decreases-one_by_one-loop-whole l = left l.s.size l.levels
+
+abbrev pub decreases-link_by_link : goal.decreases-link_by_link
+decreases-link_by_link l = 16 * height (form_of l.part.now) + 9
+
+-- the row has the values of what is left behind the quantifier at hand
+abbrev pub invariant-link_by_link-loop-k : goal.invariant-link_by_link-loop-k
+invariant-link_by_link-loop-k l =
+    (sizes_of l.rooms ≡ sizes_of l.initial.rooms)
+    × HoldsClosures l.s l.kept l.shared
+    × (l.k < length l.levels)
+    × ((level : Level) (inner : List Level) → drop l.k l.levels ≡ level ∷ inner
+    → l.row ≡ rest_along l.s (assignment_of l.a) l.sign level.var.0 inner (parts_of l.sign (form_of l.part)))
+
+abbrev pub decreases-link_by_link-loop-k : goal.decreases-link_by_link-loop-k
+decreases-link_by_link-loop-k l = l.k
+
+-- the values so far are those of what is left behind the outer quantifier
+abbrev pub invariant-linked_row-loop-u : goal.invariant-linked_row-loop-u
+invariant-linked_row-loop-u l =
+    (sizes_of l.rooms ≡ sizes_of l.initial.rooms)
+    × HoldsClosures l.s l.kept l.shared
+    × HasValues l.s.size l.u (λ w. pushed l.sign (structure_of l.s) (put (assignment_of l.a) l.outer.var.0 w)
+    (l.link.level ∷ l.link.inner.now) (parts_of l.sign (form_of l.part))) l.values
+    × IsLike l.a l.outer.var.0 l.here
+
+-- the greatest value of the words so far, with the greatest of the others, gives the whole
+abbrev pub invariant-linked_value-loop-chunk : goal.invariant-linked_value-loop-chunk
+invariant-linked_value-loop-chunk l =
+    let g : ℕ → K3 = λ u. turned l.q (smaller_of
+    (least_part (is_taken l.link.is_first l.link.level.var.0 l.link.inner.now) (structure_of l.s)
+    (put (assignment_of l.a) l.link.level.var.0 u) (parts_of l.sign (form_of l.part))) (get_or l.row u No))
+    in (sizes_of l.rooms ≡ sizes_of l.initial.rooms)
+    × HoldsClosures l.s l.kept l.shared
+    × (larger_of l.most (greatest_of g (range_with_len (64 * l.chunk) (l.s.size - 64 * l.chunk)))
+    ≡ greatest_of g (range_with_len 0 l.s.size))
+
+abbrev pub decreases-linked_row : goal.decreases-linked_row
+decreases-linked_row l = 16 * height (form_of l.part.now) + 8
+
+abbrev pub decreases-linked_value : goal.decreases-linked_value
+decreases-linked_value l = 16 * height (form_of l.part.now) + 7
+
+abbrev pub decreases-linked_word : goal.decreases-linked_word
+decreases-linked_word l = 16 * height (form_of l.f.now) + 4

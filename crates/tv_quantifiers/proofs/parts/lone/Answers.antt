@@ -1,4 +1,4 @@
-use Rattle.std.proofs.Common.{ℕ, ◌≡◌, ◌<◌, ◌∙◌, ⊎_elim, sym, subst, arith}
+use Rattle.std.proofs.Common.{◌∙◌, ⊎_elim, sym, subst, arith}
 use Rattle.std.proofs.lemmas.Bool.{cases_eq}
 use Rattle.tv_model.specs.Form.{form_of, IsFree}
 use Rattle.tv_quantifiers.proofs.parts.lone.Goals.{then-free+else-found-ne32, else-free}

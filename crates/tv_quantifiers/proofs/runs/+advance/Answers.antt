@@ -1,4 +1,4 @@
-use Rattle.std.proofs.Common.{◌≡◌, refl, sym, ap, ◌∙◌}
+use Rattle.std.proofs.Common.{refl, ap, ◌∙◌}
 use Rattle.tv_quantifiers.specs.Runs.{owed}
 use Rattle.tv_quantifiers.proofs.Running.{inner-fewer, outer-fewer, moved-on}
 use Rattle.tv_quantifiers.proofs.runs.+advance.Goals as goal

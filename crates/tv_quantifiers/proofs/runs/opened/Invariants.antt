@@ -1,4 +1,4 @@
-use Rattle.std.proofs.Common.{◌≤◌, ◌-◌}
+use Rattle.std.proofs.Common.{◌≤◌}
 use Rattle.tv_model.specs.Form.{form_of, height}
 use Rattle.tv_quantifiers.specs.Quantified.{quantified}
 use Rattle.tv_quantifiers.specs.Runs.{IsOpened}

@@ -168,3 +168,6 @@ pub returns-in_ok-walk_choices-in-Many-clause-within : goal.returns-in_ok-walk_c
 returns-in_ok-walk_choices-in-Many-clause-within c =
     subst (λ f. IsWithinLimits c.args.s (form_of f) c.args.turn.now.atom) c.deref.ensures
     c.in_ok-s.ensures.within
+
+pub push_all-requires-clause-met : goal.push_all-requires-clause-met
+push_all-requires-clause-met c = λ k d lt n of. absurd (c.none.ensures n of)

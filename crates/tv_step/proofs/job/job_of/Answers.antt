@@ -1,9 +1,11 @@
-use Rattle.std.proofs.Common.{◌∙◌, ◌≤◌, map, ap, subst}
+use Rattle.std.proofs.Common.{◌∙◌, ◌≤◌, map, ap, subst, sym}
 use Rattle.std.proofs.lemmas.List.{length-map}
 use Rattle.tv_model.specs.Form.{form_of}
 use Rattle.tv_model.specs.Program.{action_of, pred_of}
 use Rattle.tv_step_laws.specs.Transfer.{focus_places}
 use Rattle.tv_update.specs.Plan.{IsPlanFor}
+use Rattle.tv_rules.specs.Closing.{closed_rules}
+use Rattle.tv_step.specs.Redefined.{AreDefining}
 use Rattle.tv_step.specs.Setting.{form_in}
 use Rattle.tv_step.specs.Waiting.{WaitsFor}
 use Rattle.tv_step.proofs.Picking.{same-action}
@@ -26,4 +28,7 @@ returns-clause-job c =
           c.in_ok-waiting.ensures.waits;
       plan = subst (λ act. IsPlanFor p x.mode act c.in_ok-plan.plan)
           (same-action x.program.now c.args.number action c.action_at-action.ensures) c.in_ok-plan.ensures;
+      defining = subst (AreDefining p (closed_rules p)) (sym c.in_ok-defining.ensures.cases)
+          (subst (λ rules. AreDefining p rules c.waiting_after.new.shared.defining.value) c.requires.rules
+          c.in_ok-waiting.ensures.shared.defining);
     }

@@ -8,9 +8,10 @@ use Rattle.tv_struct.specs.StructureForm.{structure_of}
 use Rattle.tv_update.specs.Plan.{IsPlanFor}
 use Rattle.tv_update.specs.Update.{IsUpdateCause, IsWithinLimits}
 use Rattle.tv_step.specs.Job.{case_program, case_action, case_mode, case_structure}
+use Rattle.tv_step.specs.Redefined.{AreDefining}
 use Rattle.tv_step.specs.Steps.{IsCauseOfPick}
 use Rattle.tv_step.specs.Waiting.{WaitsFor}
-use Rattle.tv_step.proofs.LeftAlone.{given-rest, given-within}
+use Rattle.tv_step.proofs.LeftAlone.{given-met, given-rest, given-within}
 use Rattle.tv_step.proofs.Picking.{given-adds, given-shaped, pick-cause, same-action}
 use Rattle.tv_step_laws.proofs.Shapes.{shaped-over}
 use Rattle.tv_step.proofs.picks.push_given.Goals as goal
@@ -73,7 +74,7 @@ push_all-requires-clause-rest c =
     in let same = same-action c.args.c.now.setting.now.program.now c.args.c.now.job.now.number action
     c.requires.case.job.action
     in subst (λ set. All (IsStableBut (rules_of c.args.c.now.setting.now.closed.now) set) given)
-    (sym c.deref.ensures)
+    (sym c.deref-2.ensures)
     (given-rest p c.requires.case.ready.valid (case_mode c.args.c.now) action s a given
     (rules_of c.args.c.now.setting.now.closed.now)
     c.args.c.now.job.now.waiting.value c.requires.case.ready.rules c.requires.case.stable
@@ -84,7 +85,7 @@ push_all-requires-clause-rest c =
 
 pub push_all-requires-clause-count : goal.push_all-requires-clause-count
 push_all-requires-clause-count c =
-    ap length c.deref.ensures ∙ c.requires.case.job.waits.count ∙ ap length (sym c.requires.case.ready.rules)
+    ap length c.deref-2.ensures ∙ c.requires.case.job.waits.count ∙ ap length (sym c.requires.case.ready.rules)
 
 pub returns-clause-within : goal.returns-clause-within
 returns-clause-within c = λ passed.
@@ -108,3 +109,21 @@ returns-clause-out c =
     c.in_ok-given.ensures.given)
     (given-shaped p s given c.requires.case.shaped c.in_ok-given.ensures.over)
     c.in_ok-push_all.ensures.out
+
+pub push_all-requires-clause-met : goal.push_all-requires-clause-met
+push_all-requires-clause-met c =
+    let p = case_program c.args.c.now
+    in let action = case_action c.args.c.now
+    in let s = case_structure c.args.c.now
+    in let a = assignment_of c.args.picks.now
+    in let given = c.in_ok-given.given
+    in let rules = rules_of c.args.c.now.setting.now.closed.now
+    in let same = same-action c.args.c.now.setting.now.program.now c.args.c.now.job.now.number action
+    c.requires.case.job.action
+    in given-met p c.requires.case.ready.valid (case_mode c.args.c.now) action s a given
+    c.args.c.now.job.now.plan c.requires.case.job.plan
+    (subst (λ act. AreGiven p (case_mode c.args.c.now) act (structure_of s) a (map structure_of given)) same
+    c.in_ok-given.ensures.given) rules (record { preds = c.as_slice.result; defining = c.as_slice-2.result })
+    (subst (AreDefining p rules) (sym (c.as_slice-2.ensures ∙ c.deref.ensures))
+    (subst (λ rs. AreDefining p rs c.args.c.now.job.now.defining.value) (sym c.requires.case.ready.rules)
+    c.requires.case.job.defining)) c.as_slice.ensures

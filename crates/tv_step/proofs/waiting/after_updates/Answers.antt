@@ -40,4 +40,5 @@ returns-clause-shared c =
           (subst (λ qs. WaitsAfter p qs rules c.in_ok-set.set.value) c.as_slice.ensures.value c.in_ok-set.ensures)
           c.requires.after;
       at = c.requires.at;
+      defining = c.requires.defining;
     }

@@ -42,4 +42,5 @@ returns-clause-shared c =
           c.args.shared.now.at.kept.items c.keep.new.found.kept.items c.in_ok-keep.ensures
           (subst (λ qs. WaitsAbout qs rules c.in_ok-set.set.value) c.as_slice.ensures.value c.in_ok-set.ensures)
           c.requires.shared.at;
+      defining = c.requires.shared.defining;
     }

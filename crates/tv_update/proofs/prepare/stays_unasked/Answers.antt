@@ -4,8 +4,4 @@ use Rattle.tv_update.proofs.prepare.stays_unasked.Goals as goal
 
 pub returns-in-None : goal.returns-in-None
 returns-in-None c =
-    λ on. record {
-      unmarked = c.is_unmarked.ensures on;
-      yes = all_stay c.args.middle.now (assignment_of c.args.applied.now.picks.now) c.args.applied.now.action.now.retain
-          c.in-None.is;
-    }
+    λ on middle. all_stay middle (assignment_of c.args.applied.now.picks.now) c.args.applied.now.action.now.retain c.in-None.is

@@ -11,5 +11,5 @@ returns-then-stays_unasked-clause-few c =
       arith,
       halves_of_yes (keep_values c.args.middle.now (assignment_of c.args.applied.now.picks.now)
           (action_of c.args.applied.now.action.now).retain)
-          (c.stays_unasked.ensures c.if-stays_unasked.true).yes,
+          (c.stays_unasked.ensures c.if-stays_unasked.true c.args.middle.now),
     )

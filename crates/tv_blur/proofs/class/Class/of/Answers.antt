@@ -1,6 +1,5 @@
-use Rattle.tv_blur.proofs.MaskLaws.{mask_one}
+use Rattle.tv_blur.proofs.MaskLaws.{may_one}
 use Rattle.tv_blur.proofs.class.Class.of.Goals as goal
 
 pub invariant_of-result : goal.invariant_of-result
-invariant_of-result c =
-    rw (c.new.ensures.items, c.set.ensures, c.of-mask.ensures) (mask_one c.args.u c.requires)
+invariant_of-result c = rw (c.new.ensures.items) (may_one c.args.u c.requires)

@@ -5,5 +5,5 @@ pub returns : goal.returns
 returns c = record {
   by = refl;
   of = refl;
-  holds = record { unary = c.requires; rows = rw c.min.ensures at c.in_ok-rows.ensures };
+  holds = record { unary = c.requires; words = rw c.min.ensures at c.in_ok-words.ensures };
 }

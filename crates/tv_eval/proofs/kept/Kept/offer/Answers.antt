@@ -1,4 +1,4 @@
-use Rattle.std.proofs.Common.{◌≡◌, ◌+◌, ◌∙◌, length, [], ap, sym, arith, get_or}
+use Rattle.std.proofs.Common.{◌≡◌, ◌∙◌, length, [], ap, sym, arith, get_or}
 use Rattle.tv_quantifiers.proofs.Keeping.{any-default}
 use Rattle.tv_eval.proofs.Keeping.{keeps_one_more}
 use Rattle.tv_eval.proofs.kept.Kept.offer.Goals as goal

@@ -1,11 +1,9 @@
-use Rattle.std.proofs.Common.{ℕ, ◌≡◌, ◌<◌, ◌+◌, ◌*◌, ◌/◌, ◌%◌, ◌∙◌, List, [], Some, length, get_or, sym, ap}
+use Rattle.std.proofs.Common.{◌≡◌, ◌+◌, ◌*◌, ◌/◌, ◌%◌, ◌∙◌, [], get_or, sym, ap}
 use Rattle.std.proofs.Common.{subst, arith}
 use Rattle.std.specs.Prelude.{slice_get}
-use Rattle.tv_kleene.specs.declared.K3.{K3}
 use Rattle.tv_model.specs.Form.{form_of}
 use Rattle.tv_model.specs.Truth.{put}
 use Rattle.tv_eval_laws.specs.Value.{value}
-use Rattle.tv_quantifiers.specs.declared.parts.Held.{Held}
 use Rattle.tv_quantifiers.specs.Parts.{HoldsPart}
 use Rattle.tv_quantifiers.proofs.Keeping.{any-default, nothing-known, one-known, same-held}
 use Rattle.tv_quantifiers.proofs.parts.Parts.keep.Goals as goal

@@ -3,5 +3,5 @@ use Rattle.tv_quantifiers.specs.declared.quantifier.Quantifier.TheVariants.{Fora
 use Rattle.tv_quantifiers.proofs.Quantifying.{turned-twice}
 use Rattle.tv_quantifiers.proofs.quantifier.Quantifier.other.Goals as goal
 
-pub returns-in-Forall : goal.returns-in-Forall
-returns-in-Forall c = λ k. rw c.in-Forall.is (sym (turned-twice Forall k))
+pub returns-in-Forall-clause-turned : goal.returns-in-Forall-clause-turned
+returns-in-Forall-clause-turned c = λ k. rw c.in-Forall.is (sym (turned-twice Forall k))

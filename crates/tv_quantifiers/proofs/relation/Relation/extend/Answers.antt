@@ -20,7 +20,7 @@ returns-clause-row c = λ w lt.
     ∙ put_here c.args.self.now c.args.size c.args.u c.or.result c.requires.square c.requires.from long w
     ∙ ap (λ r. get_or r w No) is
     ∙ extended_row c.args.self.now c.args.size c.args.u c.args.stop w c.get-k.result c.requires.square c.requires.from
-    c.requires.stop lt (c.get-k.ensures ∙ ap (λ r. get_or r c.args.stop No) c.row-row.ensures)
+    c.requires.stop lt c.get-k.ensures
 
 pub returns-clause-square : goal.returns-clause-square
 returns-clause-square c =

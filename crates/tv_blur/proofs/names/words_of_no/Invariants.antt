@@ -1,6 +1,6 @@
 use Rattle.std.proofs.Common.{◌≡◌, replicate}
 use Rattle.tv_kleene.specs.declared.K3.TheVariants.{No}
-use Rattle.tv_blur.proofs.names.rows_of_no.Given as goal
+use Rattle.tv_blur.proofs.names.words_of_no.Given as goal
 
 abbrev pub invariant-loop : goal.invariant-loop
-invariant-loop l = l.rows.items ≡ replicate l.counter (replicate l.size No)
+invariant-loop l = l.words.items ≡ replicate l.counter (replicate 64 No)
