@@ -21,7 +21,7 @@ use Rattle.tv_blur.specs.declared.names.CanonicalNames.{CanonicalNames}
 use Rattle.tv_blur.specs.Merged.{IsJoin, IsMember, IsValueBelow, HasSummary, HasSeveral}
 use Rattle.tv_blur.specs.Names.{name_cmp, name_cmp_total}
 use Rattle.tv_blur.specs.Blur.{FollowsNames, IsBlurBy}
-use Rattle.tv_blur.specs.Naming.{AreNames, IsGathered, class_name, canonical_name_in, named_by, named_in}
+use Rattle.tv_blur.specs.Naming.{AreNames, IsGathered, TellNames, class_name, canonical_name_in, named_in}
 use Rattle.tv_blur.specs.Classes.{AreClasses, HasMerged, IsValueAmong, class_at, is_merged_summary}
 use Rattle.tv_blur.proofs.MergedLaws.{IsJoin-like}
 
@@ -72,10 +72,14 @@ same_class names n classes h w x w_lt x_lt e = at (cases_order w x)
     at (inr (inr after)) = absurd (apart x w after w_lt (sym e))
 
 -- gathered classes of all individuals
-pub gathered_all : (names : CanonicalNames) (classes : List (List ℕ)) (h : IsGathered names (named_in names).size classes)
-    → HasClasses (named_by names) (named_in names) (place_of names (named_in names).size classes h) classes
-gathered_all names classes h = record {
-  order = λ u w u_lt w_lt. (before u w u_lt w_lt, back u w u_lt w_lt);
+pub gathered_all : (preds : List ℕ) (names : CanonicalNames) (classes : List (List ℕ)) → TellNames preds (named_in names) names.rows.items
+    → (h : IsGathered names (named_in names).size classes)
+    → HasClasses preds (named_in names) (place_of names (named_in names).size classes h) classes
+gathered_all preds names classes tell h = record {
+  order = λ u w u_lt w_lt. (
+    λ less. sym (tell.alike u w u_lt w_lt) ∙ before u w u_lt w_lt less,
+    λ is. back u w u_lt w_lt (tell.alike u w u_lt w_lt ∙ is),
+  );
   lt = λ u lt. (placed names n classes h u lt).0;
   to = λ w u lt has.
       let below : u < n = (h.each w lt).within u has
@@ -124,8 +128,8 @@ gathered_classes preds s names classes are h =
     let place : ℕ → ℕ = place_of names (named_in names).size classes h
     in (
       place,
-      subst (λ ps. HasClasses ps s place classes) are.by
-          (subst (λ t. HasClasses (named_by names) t place classes) are.of (gathered_all names classes h)),
+      subst (λ t. HasClasses preds t place classes) are.of
+          (gathered_all preds names classes (subst (λ t. TellNames preds t names.rows.items) (sym are.of) are.tell) h),
     )
 
 -- some individual stands at each place

@@ -20,6 +20,18 @@ abstraction_more preds i d lt =
 
 -- ---- abstraction predicates are unary
 
+pub told_arity : (preds : List Pred) (arities : List ℕ) (p : ℕ) (pred : Pred) → arities ≡ map (λ pred. pred.arity) preds
+    → p < length preds → pred ≡ get_or preds p pred → is_abstraction pred ≡ true → slice_get arities p ≡ Some 1
+told_arity preds arities p pred over lt is told =
+    rw over
+    (slice_get-get_or (map (λ pred. pred.arity) preds) p 0 (rw (length-map preds (λ pred. pred.arity)) lt)
+    ∙ ap Some (get_or-map (λ pred. pred.arity) preds p pred 0 lt ∙ ap (λ (x : Pred). x.arity) (sym is)
+    ∙ eqb-true pred.arity 1 (of_true (pred.arity == 1) pred.abs told)))
+  where
+    of_true : (a b : Bool) → (a && b) ≡ true → a ≡ true
+    of_true true b e = refl
+    of_true false b e = e
+
 abstraction-unary_under : (no_pred : Pred) (preds : List Pred) (arities : List ℕ) → arities ≡ map (λ pred. pred.arity) preds
     → All (λ p. slice_get arities p ≡ Some 1) (kept_from 0 (map is_abstraction preds))
 abstraction-unary_under no_pred preds arities over k d lt =

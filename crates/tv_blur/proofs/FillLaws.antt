@@ -1,16 +1,18 @@
 -- Writing merged values predicate by predicate.
-use Rattle.std.proofs.Common.{ℕ, ◌≡◌, ◌≢◌, ◌⊎◌, ◌<◌, ◌≤◌, ◌+◌, inl, inr, Bool, false, List, [], ◌∷◌, get_or}
+use Rattle.std.proofs.Common.{ℕ, ◌≡◌, ◌≢◌, ◌⊎◌, ◌<◌, ◌≤◌, ◌+◌, ◌*◌, inl, inr, Bool, false, true, List, []}
+use Rattle.std.proofs.Common.{◌∷◌, get_or}
 use Rattle.std.proofs.Common.{length, None, refl, sym, ap, subst, ◌∙◌, arith}
-use Rattle.std.specs.Prelude.{Any, slice_get}
+use Rattle.std.specs.Prelude.{Any, Contains, ◌||◌, nat_lt, slice_get}
 use Rattle.std.proofs.lemmas.List.{get_or_default}
 use Rattle.std.proofs.lemmas.Bool.{cases_eq, cases_lt}
 use Rattle.std.proofs.lemmas.List.Elements.{All-contains}
+use Rattle.std.proofs.lemmas.List.FromFn.{length-map-range_with_len, get_or-map-range_with_len}
 use Rattle.tv_kleene.specs.declared.K3.{K3}
 use Rattle.tv_kleene.specs.declared.K3.TheVariants.{No}
 use Rattle.tv_struct.specs.TableForm.{HasEntry, row_of}
 use Rattle.tv_struct.specs.StructureForm.{StructureForm, IsStructure, table_of, value_at, summary_at}
 use Rattle.tv_struct.specs.StructureForm.{arities_of, with_value, with_summary}
-use Rattle.tv_struct.specs.StructureRows.{HasArity, row_at, unary_row, with_row}
+use Rattle.tv_struct.specs.StructureRows.{HasArity, flag_value, row_at, summary_row, unary_row, with_row}
 use Rattle.tv_struct.specs.Laws.{WritesOneEntry, WritesOneSummary}
 use Rattle.tv_struct.proofs.StructureLaws.{writes_one_entry, writes_one_summary}
 use Rattle.tv_struct.proofs.Library.{get_or-row_at, length-unary_row, get_or-unary_row, entry-arity}
@@ -19,6 +21,7 @@ use Rattle.tv_blur.specs.Classes.{ChangesOnly, HasMergedValues, HasMerged, AreCl
 use Rattle.tv_blur.specs.Classes.{IsAmongMembers, IsBlank, IsBlankFrom, class_at, is_merged_summary}
 use Rattle.tv_blur.proofs.JoinLaws.{join_is, join_joins, merged_none, merged_one, merged_two}
 use Rattle.tv_blur.proofs.RowLaws.{joined-none}
+use Rattle.tv_blur.proofs.WordLaws.{none_joins, same_joins}
 
 -- ---- nullary predicates
 
@@ -47,6 +50,17 @@ value_merged classes s t pred k new is arity e value tuple has =
         → IsMergedValue classes s pred tuple (value_at new pred tuple)
     at [] none read = let P : K3 → Type 0 = λ x. IsMergedValue classes s pred [] x in subst P (sym read) (merged_none classes s pred)
     at (u ∷ us) none read = absurd (omega arith)
+
+-- a nullary predicate that is No
+pub none_merged : (classes : List (List ℕ)) (s t : StructureForm) (pred : ℕ) → HasArity t pred 0 → IsBlank pred t
+    → value_at s pred [] ≡ No → HasMergedValues classes s pred t
+none_merged classes s t pred arity blank none tuple has = at tuple (entry-arity t pred 0 tuple arity has)
+  where
+    at : (tuple : List ℕ) → length tuple ≡ 0 → IsMergedValue classes s pred tuple (value_at t pred tuple)
+    at [] nullary =
+        let P : K3 → Type 0 = λ x. IsMergedValue classes s pred [] x
+        in subst P (none ∙ sym (blank [])) (merged_none classes s pred)
+    at (u ∷ us) nullary = absurd (omega arith)
 
 -- ---- unary predicates
 
@@ -91,6 +105,13 @@ row_merged classes s new pred merged are size arity row joins tuple has =
 pub unchanged : (pred : ℕ) (t : StructureForm) → ChangesOnly pred t t
 unchanged pred t = record { size = refl; over = refl; summaries = refl; fresh = refl; others = λ q tuple differ. refl }
 
+pub word_held : (s : StructureForm) (pred : ℕ) (word : List K3) → s.size ≤ 64
+    → ((i : ℕ) → i < 64 → 64 * 0 + i < s.size → get_or word i No ≡ value_at s pred ((64 * 0 + i) ∷ []))
+    → (u : ℕ) → u < s.size → get_or word u No ≡ value_at s pred (u ∷ [])
+word_held s pred word few holds u lt =
+    let P : ℕ → Type 0 = λ x. get_or word u No ≡ value_at s pred (x ∷ [])
+    in subst P (omega arith) (holds u (omega (arith, few, lt)) (omega (arith, lt)))
+
 pub nowhere_merged : (classes : List (List ℕ)) (s t : StructureForm) (pred : ℕ) → AreClasses s classes → t.size ≡ length classes
     → HasArity t pred 1 → IsBlank pred t → ((u : ℕ) → u < s.size → value_at s pred (u ∷ []) ≡ No)
     → HasMergedValues classes s pred t
@@ -106,16 +127,30 @@ nowhere_merged classes s t pred are size arity blank none =
         inside : (u : ℕ) → u < length (unary_row s pred) → u < s.size
         inside u lt = rw (length-unary_row s pred) at lt
 
+-- the joins of a word that holds the values are those of the row
+pub word_merged : (classes : List (List ℕ)) (s : StructureForm) (pred : ℕ) (word merged : List K3) → AreClasses s classes
+    → s.size ≤ 64 → ((i : ℕ) → i < 64 → 64 * 0 + i < s.size → get_or word i No ≡ value_at s pred ((64 * 0 + i) ∷ []))
+    → (w : ℕ) → w < length classes
+    → IsJoin (IsAmongMembers (λ u j. get_or word u No ≡ j) (class_at classes w)) (get_or merged w No)
+    → IsJoin (IsAmongMembers (λ u j. get_or (unary_row s pred) u No ≡ j) (class_at classes w)) (get_or merged w No)
+word_merged classes s pred word merged are few holds w lt =
+    same_joins word (unary_row s pred) (class_at classes w) (get_or merged w No)
+    (λ u has.
+    let inside : u < s.size = All-contains (λ x. x < s.size) (class_at classes w) u (are.within w [] lt) has
+    in word_held s pred word few holds u inside ∙ sym (get_or-unary_row s pred u inside))
+
 -- ---- binary predicates, row by row
 
 pub record HasRows (classes : List (List ℕ)) (s : StructureForm) (pred n : ℕ) (old t : StructureForm) : Type 0 where
   pub changes : ChangesOnly pred old t
   pub rows : (w x : ℕ) → w < n → x < length classes → IsMergedValue classes s pred (w ∷ x ∷ []) (value_at t pred (w ∷ x ∷ []))
+  pub rest : (w x : ℕ) → n ≤ w → value_at t pred (w ∷ x ∷ []) ≡ value_at old pred (w ∷ x ∷ [])
 
 pub rows_none : (classes : List (List ℕ)) (s : StructureForm) (pred : ℕ) (t : StructureForm) → HasRows classes s pred 0 t t
 rows_none classes s pred t = record {
   changes = unchanged pred t;
   rows = λ w x lt within. absurd (omega arith);
+  rest = λ w x past. refl;
 }
 
 pub rows_more : (classes : List (List ℕ)) (s : StructureForm) (pred n : ℕ) (old t new : StructureForm) (joined merged : List K3)
@@ -135,6 +170,8 @@ rows_more classes s pred n old t new joined merged are size lt have e over row o
     others = λ q tuple differ. others q tuple (λ same. differ same.0) ∙ have.changes.others q tuple differ;
   };
   rows = λ w x below within. at w x below within (cases_lt w n);
+  rest = λ w x past.
+      others pred (w ∷ x ∷ []) (λ same. let is : w ≡ n = same.1 in omega (arith, is, past)) ∙ have.rest w x (omega (arith, past));
 }
   where
     at : (w x : ℕ) → w < n + 1 → x < length classes → (w < n) ⊎ (n ≤ w)
@@ -155,6 +192,34 @@ rows_more classes s pred n old t new joined merged are size lt have e over row o
         (class_at classes x) (get_or merged x No)
         (λ v has. inner v (All-contains (λ y. y < s.size) (class_at classes x) v (are.within x [] within) has))
         (outer x within))))
+
+-- a row of No is passed over
+pub rows_past : (classes : List (List ℕ)) (s : StructureForm) (pred n : ℕ) (old t : StructureForm) (joined : List K3)
+    → AreClasses s classes → n < length classes → IsBlank pred old → HasRows classes s pred n old t
+    → ((v : ℕ) → v < s.size → IsJoin (IsAmongMembers (λ u j. value_at s pred (u ∷ v ∷ []) ≡ j) (class_at classes n)) (get_or joined v No))
+    → ((v : ℕ) → v < s.size → get_or joined v No ≡ No) → HasRows classes s pred (n + 1) old t
+rows_past classes s pred n old t joined are lt blank have inner none = record {
+  changes = have.changes;
+  rows = λ w x below within. at w x below within (cases_lt w n);
+  rest = λ w x past. have.rest w x (omega (arith, past));
+}
+  where
+    at : (w x : ℕ) → w < n + 1 → x < length classes → (w < n) ⊎ (n ≤ w)
+        → IsMergedValue classes s pred (w ∷ x ∷ []) (value_at t pred (w ∷ x ∷ []))
+    at w x below within (inl before) = have.rows w x before within
+    at w x below within (inr after) =
+        let last : n ≡ w = omega arith
+        in let read : No ≡ value_at t pred (n ∷ x ∷ []) = sym (have.rest n x (omega arith) ∙ blank (n ∷ x ∷ []))
+        in let P : K3 → Type 0 = λ k. IsMergedValue classes s pred (n ∷ x ∷ []) k
+        in let Q : ℕ → Type 0 = λ y. IsMergedValue classes s pred (y ∷ x ∷ []) (value_at t pred (y ∷ x ∷ []))
+        in let inside : (v : ℕ) → Contains (class_at classes x) v → v < s.size
+        = λ v has. All-contains (λ y. y < s.size) (class_at classes x) v (are.within x [] within) has
+        in subst Q last (subst P read
+        (merged_two classes s pred n x No
+        (join_joins (λ v. IsAmongMembers (λ u j. value_at s pred (u ∷ v ∷ []) ≡ j) (class_at classes n)) (λ v. get_or joined v No)
+        (class_at classes x) No
+        (λ v has. inner v (inside v has))
+        (none_joins joined (class_at classes x) (are.some x [] within) (λ v has. none v (inside v has))))))
 
 pub rows_all : (classes : List (List ℕ)) (s : StructureForm) (pred n : ℕ) (old t : StructureForm) → old.size ≡ length classes
     → HasArity t pred 2 → HasRows classes s pred n old t → length classes ≤ n → HasMergedValues classes s pred t
@@ -206,16 +271,19 @@ pub record HasSummaries (classes : List (List ℕ)) (s : StructureForm) (n : ℕ
   pub over : arities_of t ≡ arities_of s
   pub fresh : t.fresh ≡ None
   pub flags : (w : ℕ) → w < n → summary_at t w ≡ is_merged_summary s (class_at classes w)
+  pub plain : (w : ℕ) → n ≤ w → summary_at t w ≡ false
   pub blank : IsBlankFrom 0 t
 
 pub summaries_none : (classes : List (List ℕ)) (s t : StructureForm) → IsStructure t → t.size ≡ length classes
-    → arities_of t ≡ arities_of s → t.fresh ≡ None → IsBlankFrom 0 t → HasSummaries classes s 0 t
-summaries_none classes s t is size over fresh blank = record {
+    → arities_of t ≡ arities_of s → t.fresh ≡ None → ((w : ℕ) → summary_at t w ≡ false) → IsBlankFrom 0 t
+    → HasSummaries classes s 0 t
+summaries_none classes s t is size over fresh plain blank = record {
   is = is;
   size = size;
   over = over;
   fresh = fresh;
   flags = λ w lt. absurd (omega arith);
+  plain = λ w past. plain w;
   blank = blank;
 }
 
@@ -228,6 +296,8 @@ summaries_more classes s n t new on have lt e is is_on = record {
   over = ap arities_of e ∙ have.over;
   fresh = ap (λ (x : StructureForm). x.fresh) e ∙ have.fresh;
   flags = λ w below. at w below (cases_eq w n);
+  plain = λ w past.
+      ap (λ x. summary_at x w) e ∙ one.others w (λ same. omega (arith, same, past)) ∙ have.plain w (omega (arith, past));
   blank = λ pred past tuple. ap (λ x. value_at x pred tuple) e ∙ have.blank pred past tuple;
 }
   where
@@ -239,6 +309,57 @@ summaries_more classes s n t new on have lt e is is_on = record {
         let P : ℕ → Type 0 = λ x. summary_at new x ≡ is_merged_summary s (class_at classes x)
         in subst P (sym same) (ap (λ x. summary_at x n) e ∙ one.written ∙ is_on)
     at w below (inr differ) = ap (λ x. summary_at x w) e ∙ one.others w differ ∙ have.flags w (omega arith)
+
+-- a class that is no summary is passed over
+pub summaries_past : (classes : List (List ℕ)) (s : StructureForm) (n : ℕ) (t : StructureForm)
+    → HasSummaries classes s n t → false ≡ is_merged_summary s (class_at classes n) → HasSummaries classes s (n + 1) t
+summaries_past classes s n t have off = record {
+  is = have.is;
+  size = have.size;
+  over = have.over;
+  fresh = have.fresh;
+  flags = λ w below. at w below (cases_eq w n);
+  plain = λ w past. have.plain w (omega (arith, past));
+  blank = have.blank;
+}
+  where
+    at : (w : ℕ) → w < n + 1 → (w ≡ n) ⊎ (w ≢ n) → summary_at t w ≡ is_merged_summary s (class_at classes w)
+    at w below (inl same) =
+        let P : ℕ → Type 0 = λ x. summary_at t x ≡ is_merged_summary s (class_at classes x)
+        in subst P (sym same) (have.plain n (omega arith) ∙ off)
+    at w below (inr differ) = have.flags w (omega (arith, below, differ))
+
+pub length-summary_row : (s : StructureForm) → length (summary_row s) ≡ s.size
+length-summary_row s = length-map-range_with_len (λ x. flag_value (summary_at s x)) 0 s.size
+
+flag_at : (s : StructureForm) (row : List K3) (u : ℕ) → row ≡ summary_row s → u < length row
+    → get_or row u No ≡ flag_value (summary_at s u)
+flag_at s row u is lt =
+    ap (λ r. get_or r u No) is
+    ∙ get_or-map-range_with_len (λ x. flag_value (summary_at s x)) 0 s.size u u No
+    (omega (arith, lt, ap length is, length-summary_row s)) (omega arith)
+
+-- the row of flags tells whether an individual is a summary
+pub flag_off : (s : StructureForm) (row : List K3) (u : ℕ) → row ≡ summary_row s → u < length row → get_or row u No ≡ No
+    → false ≡ summary_at s u
+flag_off s row u is lt none = off (summary_at s u) (sym (flag_at s row u is lt) ∙ none)
+  where
+    off : (b : Bool) → flag_value b ≡ No → false ≡ b
+    off false e = refl
+    off true e = absurd (cc e)
+
+pub flag_on : (s : StructureForm) (row : List K3) (u : ℕ) → row ≡ summary_row s → u < length row → get_or row u No ≢ No
+    → true ≡ summary_at s u
+flag_on s row u is lt some = on (summary_at s u) (λ e. some (flag_at s row u is lt ∙ e))
+  where
+    on : (b : Bool) → flag_value b ≢ No → true ≡ b
+    on false e = absurd (e refl)
+    on true e = refl
+
+-- a class of one is a summary where the one is
+pub summary_one : (s : StructureForm) (members : List ℕ) (on : Bool) → nat_lt 1 (length members) ≡ false
+    → on ≡ summary_at s (get_or members 0 0) → on ≡ is_merged_summary s members
+summary_one s members on one is = is ∙ ap (λ several. several || summary_at s (get_or members 0 0)) (sym one)
 
 pub summaries_all : (classes : List (List ℕ)) (s : StructureForm) (n : ℕ) (t : StructureForm) → HasSummaries classes s n t
     → length classes ≤ n → HasMerged classes s 0 t

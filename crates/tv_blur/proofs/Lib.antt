@@ -4,6 +4,7 @@ pub mod Ascended
 pub mod ClassLaws
 pub mod JoinLaws
 pub mod RowLaws
+pub mod WordLaws
 pub mod MaskLaws
 pub mod NameRows
 pub mod Rises

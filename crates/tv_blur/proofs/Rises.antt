@@ -1,17 +1,18 @@
 -- How names compare to the next ones', predicate after predicate.
 use Rattle.std.proofs.Common.{ℕ, Bool, true, false, take, ◌≡◌, ◌≢◌, ◌⊎◌, ◌<◌, ◌+◌, ◌-◌, inl, inr, List, []}
 use Rattle.std.proofs.Common.{◌∷◌, ◌++◌, get_or, length, map, replicate, Less, Equal, Greater, refl, sym, ap}
-use Rattle.std.proofs.Common.{subst, ◌∙◌, arith, drop, All, ◌≤◌, ⊎_elim}
+use Rattle.std.proofs.Common.{subst, ◌∙◌, arith, drop, All, ◌≤◌, ◌*◌, ⊎_elim}
 use Rattle.std.specs.Ordering.{ordering_then}
 use Rattle.std.proofs.lemmas.Bool.{cases_eq, cases_lt}
 use Rattle.std.specs.Prelude.{IsTrue, MatchBool, if◌then◌else◌}
 use Rattle.std.proofs.lemmas.List.{append-nil, get_or-replicate, length-map, length-replicate, map-append}
-use Rattle.std.proofs.lemmas.List.{take-append-drop, get_or_default}
+use Rattle.std.proofs.lemmas.List.{take-append-drop, get_or_default, get_or_past, get_or-take, length-take-le}
 use Rattle.tv_lemmas.proofs.Orderings.{then_nothing}
 use Rattle.tv_kleene.specs.declared.K3.{K3}
 use Rattle.tv_kleene.specs.declared.K3.TheVariants.{No, Half, Yes}
 use Rattle.tv_model.specs.declared.program.Pred.{Pred}
-use Rattle.tv_row.specs.Bits.{value_cmp}
+use Rattle.tv_row.specs.Bits.{padded, value_cmp}
+use Rattle.tv_row.proofs.RowOps.{no_place, no_word}
 use Rattle.tv_struct.specs.StructureForm.{StructureForm, kept_from, structure_of, value_at}
 use Rattle.tv_struct.specs.StructureRows.{unary_row}
 use Rattle.tv_struct.proofs.Library.{get_or-unary_row}
@@ -19,6 +20,7 @@ use Rattle.tv_blur.specs.Names.{is_abstraction, canonical_name, name_cmp}
 use Rattle.tv_blur.specs.Blur.{FollowsNames}
 use Rattle.tv_blur.specs.Rising.{AddsRises, Falls, TellsRises, order_told, order_to_next, values_to_next}
 use Rattle.tv_blur.proofs.ClassLaws.{abstraction_more}
+use Rattle.tv_blur.proofs.FillLaws.{word_held}
 use Rattle.tv_blur.proofs.NameRows.{cmp_append}
 
 -- ---- one individual
@@ -156,10 +158,22 @@ rises_all preds s rises tells all k lt =
 
 -- ---- where the structure isn't blurred
 
-pub pred_told : (told result : Bool) (Adds Fall Same : Type 0) → told ≡ true → MatchBool result Adds Fall
-    → MatchBool result (MatchBool told Adds Same) (IsTrue told × Fall)
-pred_told told true Adds Fall Same is adds = subst (λ b. MatchBool b Adds Same) (sym is) adds
-pred_told told false Adds Fall Same is fall = (is, fall)
+-- where a predicate is told, its values add
+pub told_adds : (told : Bool) (values old new : List K3) → IsTrue told → AddsRises values (length old) old new
+    → MatchBool told (AddsRises values (length old) old new) (new ≡ old)
+told_adds true values old new on adds = adds
+told_adds false values old new on adds = absurd (let e : false ≡ true = on in cc)
+
+-- where individuals aren't told apart by it, all stays
+pub untold : (told : Bool) (Adds Same : Type 0) → told ≡ false → Same → MatchBool told Adds Same
+untold told Adds Same is same = subst (λ b. MatchBool b Adds Same) (sym is) same
+
+-- where it isn't told, nothing is added
+pub passed_adds : (told : Bool) (s : StructureForm) (p : ℕ) (rises : List K3)
+    → (IsTrue told → (u : ℕ) → u < s.size → value_at s p (u ∷ []) ≡ No) → length rises ≡ s.size - 1
+    → MatchBool told (AddsRises (unary_row s p) (length rises) rises rises) (rises ≡ rises)
+passed_adds true s p rises none long = nowhere_adds s p rises (none refl) long
+passed_adds false s p rises none long = refl
 
 -- what falls of what was told before falls of what is told now
 pub falls_before : (values : List K3) (n : ℕ) (old rises : List K3) → AddsRises values n old rises → n < length old
@@ -246,3 +260,69 @@ all_rise preds s rises tells follows u d lt =
     = sym (tells.orders u inside) ∙ (follows u (u + 1) (omega (arith, inside)) (omega (arith, inside))).0 (omega arith)
     in λ no. let equal : order_to_next rises u ≡ Equal
     = ap order_told (get_or_default rises u No d lt ∙ no) in cc
+
+-- ---- in one word
+
+-- the word holds the values of the predicate
+abbrev pub HoldsPred : (s : StructureForm) (pred : ℕ) (word : List K3) → Type 0
+HoldsPred s pred word = (i : ℕ) → i < 64 → 64 * 0 + i < s.size → get_or word i No ≡ value_at s pred ((64 * 0 + i) ∷ [])
+
+pub rises_none_in : (s : StructureForm) (rises : List K3) → s.size ≤ 64 → rises ≡ padded 0 (replicate 64 No)
+    → TellsRises [] s (take (s.size - 1) rises)
+rises_none_in s rises few is = record {
+  long = length-take-le (s.size - 1) rises (omega (arith, few, ap length is ∙ no_word));
+  orders = λ u lt. sym (ap order_told (get_or-take (s.size - 1) rises u No lt ∙ ap (λ r. get_or r u No) is
+      ∙ no_place u (omega (arith, few, lt))));
+}
+
+values_in : (s : StructureForm) (p : ℕ) (word : List K3) (u : ℕ) → s.size ≤ 64 → HoldsPred s p word → u + 1 < s.size
+    → values_to_next word u ≡ values_to_next (unary_row s p) u
+values_in s p word u few holds lt =
+    ap (λ k. value_cmp k (get_or word (u + 1) No)) (at u (omega (arith, lt)))
+    ∙ ap (value_cmp (get_or (unary_row s p) u No)) (at (u + 1) lt)
+  where
+    at : (x : ℕ) → x < s.size → get_or word x No ≡ get_or (unary_row s p) x No
+    at x low = word_held s p word few holds x low ∙ sym (get_or-unary_row s p x low)
+
+order_in : (m : ℕ) (rises : List K3) (u : ℕ) → u < m → order_to_next (take m rises) u ≡ order_to_next rises u
+order_in m rises u lt = ap order_told (get_or-take m rises u No lt)
+
+pub falls_in : (values : List K3) (n m : ℕ) (old rises : List K3) → AddsRises values n old rises → n < m → m ≤ length old
+    → ordering_then (order_to_next rises n) (values_to_next values n) ≡ Greater → Falls values (take m old)
+falls_in values n m old rises adds lt within greater = (
+  n,
+  omega (arith, lt, length-take-le m old within),
+  ap (λ o. ordering_then o (values_to_next values n)) (order_in m old n lt ∙ ap order_told (sym (adds.rest n (omega arith)))) ∙ greater,
+)
+
+pub falls_word : (s : StructureForm) (p : ℕ) (word rises : List K3) → s.size ≤ 64 → HoldsPred s p word → length rises ≡ 64
+    → Falls word (take (s.size - 1) rises) → Falls (unary_row s p) (take (s.size - 1) rises)
+falls_word s p word rises few holds long (u, lt, greater) =
+    let inside : u < s.size - 1 = omega (arith, lt, length-take-le (s.size - 1) rises (omega (arith, few, long)))
+    in (
+      u,
+      lt,
+      ap (ordering_then (order_to_next (take (s.size - 1) rises) u)) (sym (values_in s p word u few holds (omega (arith, inside))))
+          ∙ greater,
+    )
+
+pub adds_word : (s : StructureForm) (p : ℕ) (word old new : List K3) → s.size ≤ 64 → HoldsPred s p word → length old ≡ 64
+    → AddsRises word (s.size - 1) old new
+    → AddsRises (unary_row s p) (length (take (s.size - 1) old)) (take (s.size - 1) old) (take (s.size - 1) new)
+adds_word s p word old new few holds long adds = record {
+  long = length-take-le m new (omega (arith, few, long, adds.long)) ∙ sym size;
+  first = λ u lt.
+      let inside : u < m = omega (arith, lt, size)
+      in order_in m new u inside ∙ adds.first u inside
+      ∙ ap (λ o. ordering_then o (values_to_next word u)) (sym (order_in m old u inside))
+      ∙ ap (ordering_then (order_to_next (take m old) u)) (values_in s p word u few holds (omega (arith, inside)));
+  rest = λ u past.
+      get_or_past (take m new) u No (omega (arith, past, size, length-take-le m new (omega (arith, few, long, adds.long))))
+      ∙ sym (get_or_past (take m old) u No past);
+}
+  where
+    m : ℕ
+    m = s.size - 1
+
+    size : length (take m old) ≡ m
+    size = length-take-le m old (omega (arith, few, long))

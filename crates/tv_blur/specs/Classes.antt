@@ -64,6 +64,13 @@ pub record AreClasses (s : StructureForm) (classes : List (List ℕ)) : Type 0 w
   pub some : All (λ members. 0 < length members) classes
   pub within : All (λ members. All (λ u. u < s.size) members) classes
 
+-- there are individuals, and so few of them and of classes that values of each stand in one word
+pub record FitWord (s : StructureForm) (classes : List (List ℕ)) : Type 0 where
+  pub some : 0 < s.size
+  pub few : s.size ≤ 64
+  pub some_classes : 0 < length classes
+  pub few_classes : length classes ≤ 64
+
 -- an individual that is made of these is a summary: there are several, or the one is a summary
 abbrev pub is_merged_summary : StructureForm → (members : List ℕ) → Bool
 is_merged_summary s members = nat_lt 1 (length members) || summary_at s (slice_index members 0)

@@ -1,57 +1,45 @@
--- Names as words of values, and the classes of the first individuals by their names.
-use Rattle.std.specs.Prelude.{ℕ, ◌≡◌, ◌≢◌, ◌<◌, ◌≤◌, ◌-◌, ◌++◌, List, [], length, map, min, take, drop, All}
-use Rattle.std.specs.Prelude.{Contains, Some, replicate, slice_get, slice_index, slice_index_or}
-use Rattle.std.specs.List.{range_with_len}
+-- Names by rows of values, and the classes of the first individuals by their names.
+use Rattle.std.specs.Prelude.{ℕ, ◌≡◌, ◌<◌, ◌≤◌, ◌++◌, List, [], ◌∷◌, length, map, All, Bool, if◌then◌else◌}
+use Rattle.std.specs.Prelude.{Contains, slice_index, slice_index_or}
 use Rattle.std.specs.declared.cmp.Ordering.TheVariants.{Less}
 use Rattle.tv_kleene.specs.declared.K3.{K3}
 use Rattle.tv_kleene.specs.declared.K3.TheVariants.{No}
-use Rattle.tv_embedding_laws.specs.LogicalStructure.{LogicalStructure}
-use Rattle.tv_row.specs.Places.{entry_in}
-use Rattle.tv_struct.specs.StructureForm.{StructureForm, structure_of, arities_of}
+use Rattle.tv_struct.specs.StructureForm.{StructureForm, structure_of}
 use Rattle.tv_blur.specs.declared.names.CanonicalNames.{CanonicalNames}
 use Rattle.tv_blur.specs.Names.{canonical_name, name_cmp}
 use Rattle.tv_blur.specs.Classes.{class_at}
-
--- the predicates of which names are made
-abbrev pub named_by : CanonicalNames → List ℕ
-named_by names = names.preds.now
 
 -- the structure whose individuals they are of
 abbrev pub named_in : CanonicalNames → StructureForm
 named_in names = names.structure.now
 
+-- the values of an individual in the rows
+abbrev pub name_in_rows : (rows : List (List K3)) → ℕ → List K3
+name_in_rows rows u = map (λ row. slice_index_or row u No) rows
+
 abbrev pub canonical_name_in : CanonicalNames → ℕ → List K3
-canonical_name_in names u = canonical_name (named_by names) (structure_of (named_in names)) u
+canonical_name_in names u = name_in_rows names.rows.items u
 
--- the values of at most 64 predicates in a word, and No behind them
-abbrev pub name_word : (preds : List ℕ) → LogicalStructure → ℕ → List K3
-name_word preds s u = canonical_name preds s u ++ replicate (64 - length preds) No
+-- each row has a value of each individual, and by these values names compare as by those of the predicates
+pub record TellNames (preds : List ℕ) (s : StructureForm) (rows : List (List K3)) : Type 0 where
+  pub long : All (λ row. length row ≡ s.size) rows
+  pub alike : (u w : ℕ) → u < s.size → w < s.size
+      → name_cmp (name_in_rows rows u) (name_in_rows rows w)
+      ≡ name_cmp (canonical_name preds (structure_of s) u) (canonical_name preds (structure_of s) w)
 
--- the values of the predicates behind the first 64
-abbrev pub rest_in : CanonicalNames → ℕ → List K3
-rest_in names u =
-    canonical_name (drop (min (length (named_by names)) 64) (named_by names))
-    (structure_of (named_in names)) u
+-- new rows tell names by one more predicate, where they are told apart by it
+abbrev pub AddsRow : (told : Bool) → StructureForm → (pred : ℕ) → (old new : List (List K3)) → Type 0
+AddsRow told s pred old new =
+    (preds : List ℕ) → TellNames preds s old → TellNames (preds ++ (if told then pred ∷ [] else [])) s new
 
--- the predicates are unary, and the words have the values of the first 64
-pub record HoldsNames (names : CanonicalNames) : Type 0 where
-  pub unary : All (λ p. slice_get (arities_of (named_in names)) p ≡ Some 1) (named_by names)
-  pub words : names.words.items
-      ≡ map (name_word (take (min (length (named_by names)) 64) (named_by names))
-      (structure_of (named_in names))) (range_with_len 0 (named_in names).size)
+-- each row has a value of each individual
+abbrev pub HoldsNames : CanonicalNames → Type 0
+HoldsNames names = All (λ row. length row ≡ (named_in names).size) names.rows.items
 
 -- the names of the individuals of the structure by the predicates
 pub record AreNames (preds : List ℕ) (s : StructureForm) (names : CanonicalNames) : Type 0 where
-  pub by : named_by names ≡ preds
   pub of : named_in names ≡ s
-  pub holds : HoldsNames names
-
--- new is old with the values in a column, one in each word
-pub record HasColumn (column : ℕ) (values : List K3) (old new : List (List K3)) : Type 0 where
-  pub count : length new ≡ length old
-  pub long : (u : ℕ) → length (slice_index_or new u []) ≡ length (slice_index_or old u [])
-  pub put : (u : ℕ) → u < length old → entry_in new u column ≡ slice_index_or values u No
-  pub others : (u c : ℕ) → c ≢ column → entry_in new u c ≡ entry_in old u c
+  pub tell : TellNames preds s names.rows.items
 
 -- the name of a class: that of its first member
 abbrev pub class_name : CanonicalNames → List (List ℕ) → ℕ → List K3

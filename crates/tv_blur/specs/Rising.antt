@@ -1,5 +1,5 @@
 -- Whether names stand in order: each individual's name beside the next one's.
-use Rattle.std.specs.Prelude.{ℕ, ◌≡◌, ◌<◌, ◌≤◌, ◌+◌, ◌-◌, List, length, slice_index_or}
+use Rattle.std.specs.Prelude.{ℕ, ◌≡◌, ◌≢◌, ◌<◌, ◌≤◌, ◌+◌, ◌-◌, List, length, slice_index_or}
 use Rattle.std.specs.declared.cmp.Ordering.{Ordering}
 use Rattle.std.specs.declared.cmp.Ordering.TheVariants.{Less, Equal, Greater}
 use Rattle.std.specs.Ordering.{ordering_then}
@@ -28,6 +28,12 @@ pub record TellsRises (preds : List ℕ) (s : StructureForm) (rises : List K3) :
   pub orders : (u : ℕ) → u < s.size - 1
       → name_cmp (canonical_name preds (structure_of s) u) (canonical_name preds (structure_of s) (u + 1))
       ≡ order_to_next rises u
+
+-- new tells what old tells of one individual, or else what these values tell, and what old tells of others
+pub record AddsRise (values : List K3) (u : ℕ) (old new : List K3) : Type 0 where
+  pub long : length new ≡ length old
+  pub here : order_to_next new u ≡ ordering_then (order_to_next old u) (values_to_next values u)
+  pub others : (w : ℕ) → w ≢ u → slice_index_or new w No ≡ slice_index_or old w No
 
 -- new tells what old tells of the first n, or else what these values tell, and of the others what old tells
 pub record AddsRises (values : List K3) (n : ℕ) (old new : List K3) : Type 0 where

@@ -1,23 +1,23 @@
 //! Whether a structure is blurred already.
 
 ghost use Rattle.std.specs.Prelude.{◌≡◌, ◌≢◌, ◌<◌, ◌≤◌, ◌↔◌, ◌+◌, ◌-◌, ℕ, IsTrue, MatchBool, Some, length};
-ghost use Rattle.std.specs.Prelude.{slice_get, slice_index_or, MatchOption};
+ghost use Rattle.std.specs.Prelude.{nat_lt, slice_index_or, take, All, MatchOption, if◌then◌else◌};
 ghost use Rattle.std.specs.declared.cmp.Ordering.TheVariants.{Equal, Greater};
 ghost use Rattle.std.specs.Ordering.{ordering_then};
 ghost use Rattle.tv_kleene.specs.declared.K3.TheVariants.{No};
 ghost use Rattle.tv_struct.specs.StructureForm.{IsOver, arities_of, structure_of};
 ghost use Rattle.tv_struct.specs.StructureRows.{unary_row};
 ghost use Rattle.tv_blur.specs.Names.{abstraction_preds, is_abstraction};
-ghost use Rattle.tv_blur.specs.Rising.{AddsRises, Falls, order_to_next, values_to_next};
+ghost use Rattle.tv_blur.specs.Rising.{AddsRise, AddsRises, Falls, order_to_next, values_to_next};
 ghost use Rattle.tv_blur.specs.Blur.{FollowsNames, IsBlurred};
 
-use crate::classes::tells_apart;
-use crate::names::compare_value;
+use crate::names::{compare_value, is_told, tells_apart};
+use crate::words::ROOM;
 use std::cmp::Ordering;
 use tv_kleene::K3;
-use tv_model::{Pred, PredId, Vocab};
-use tv_row::Row;
-use tv_struct::{Structure, is_nowhere};
+use tv_model::{PredId, Vocab};
+use tv_row::{Row, Word};
+use tv_struct::Structure;
 
 /// Tells how the values of the individual `u` and of the next one compare, unless their names differ already.
 /// Whether the names don't fall.
@@ -44,6 +44,15 @@ fn add_rise(rises: &mut Row, values: &Row, u: u32) -> bool
     }
 }
 
+/// The place before this one, unless that lies before `from`.
+#[inline(always)]
+fn or_before(place: u32, from: u32) -> u32
+    requires { from ≤ place }
+    ensures { result ≡ (if nat_lt from place then place - 1 else place) }
+{
+    if from < place { place - 1 } else { place }
+}
+
 /// The first individual at or after `from`, other than the last, that or the next of which has a value that
 /// isn't `No`. Others have the value of the next one.
 fn next_told(values: &Row, from: u32) -> Option<u32>
@@ -55,11 +64,7 @@ fn next_told(values: &Row, from: u32) -> Option<u32>
 {
     let size = values.size();
     let possible = values.next_possible(from)?;
-    let u = if from < possible {
-        possible - 1
-    } else {
-        possible
-    };
+    let u = or_before(possible, from);
     if u + 1 < size { Some(u) } else { None }
 }
 
@@ -80,22 +85,91 @@ fn add_rises(rises: &mut Row, values: &Row) -> bool
     true
 }
 
-/// The same of the values of a predicate, where individuals are told apart by it.
-fn add_pred(rises: &mut Row, s: &Structure, p: u32, pred: &Pred) -> bool
-    requires pred { slice_get (arities_of s.now) p ≡ Some pred.now.arity }
-    requires long { length rises.old ≡ s.now.size - 1 }
-    ensures { MatchBool result
-        (MatchBool (is_abstraction pred.now)
-        (AddsRises (unary_row s.now p) (length rises.old) rises.old rises.new) (rises.new ≡ rises.old))
-        (IsTrue (is_abstraction pred.now) × Falls (unary_row s.now p) rises.old) }
+/// Tells how the values of the individual `u` and of the next one compare, unless their names differ already.
+/// There is no answer where the names fall.
+#[inline(always)]
+fn with_rise(rises: Word, values: Word, u: u32) -> Option<Word>
+    requires individual { u + 1 < 64 }
+    requires long { length rises ≡ 64 }
+    ensures { MatchOption result
+        (ordering_then (order_to_next rises u) (values_to_next values u) ≡ Greater)
+        (AddsRise values u rises) }
 {
-    if !tells_apart(pred) {
-        return true;
+    match compare_value(values.get(u), values.get(u + 1)) {
+        Ordering::Equal => Some(rises),
+        Ordering::Less => Some(rises.with(u, K3::Yes)),
+        Ordering::Greater => match rises.get(u) {
+            K3::No => None,
+            _ => Some(rises),
+        },
     }
-    if is_nowhere(s, PredId(p)) {
-        return true;
+}
+
+/// The first of so many individuals at or after `from`, other than the last, that or the next of which has a
+/// value that isn't `No`. Others have the value of the next one.
+#[inline(always)]
+fn next_in(values: Word, size: u32, from: u32) -> Option<u32>
+    requires from { from ≤ 64 }
+    requires size { size ≤ 64 }
+    ensures { MatchOption result
+        ((w : ℕ) → from ≤ w → w + 1 < size → values_to_next values w ≡ Equal)
+        (λ u. (from ≤ u) × (u + 1 < size)
+        × ((w : ℕ) → from ≤ w → w < u → values_to_next values w ≡ Equal)) }
+{
+    let possible = values.first_possible(from)?;
+    let u = or_before(possible, from);
+    if u + 1 < size { Some(u) } else { None }
+}
+
+/// The same of each of so many individuals but the last.
+#[inline(always)]
+fn with_rises(rises: Word, values: Word, size: u32) -> Option<Word>
+    requires size { size ≤ 64 }
+    requires long { length rises ≡ 64 }
+    ensures { MatchOption result (Falls values (take (size - 1) rises))
+        (AddsRises values (size - 1) rises) }
+{
+    let mut told = rises;
+    let mut from = 0;
+    while let Some(u) = next_in(values, size, from) {
+        told = with_rise(told, values, u)?;
+        from = u + 1;
     }
-    add_rises(rises, &s.unary_row(PredId(p)))
+    Some(told)
+}
+
+/// Whether the names of the first `n` individuals rise to the next one's.
+#[inline(always)]
+fn all_rise(rises: Word, n: u32) -> bool
+    requires { n ≤ 64 }
+    ensures { IsTrue result ↔ All (λ k. k ≢ No) (take n rises) }
+{
+    rises.least(n) != K3::No
+}
+
+/// Whether the individuals, which are two or more and few enough that values stand in one word, have
+/// different names and stand in their order.
+fn are_ascending_in(vocab: &Vocab, s: &Structure) -> bool
+    requires over { IsOver vocab.now s.now }
+    requires several { 1 < s.now.size }
+    requires few { s.now.size ≤ 64 }
+    ensures { IsTrue result
+        ↔ FollowsNames (abstraction_preds vocab.now) (structure_of s.now) s.now.size (λ u. u) }
+{
+    let _ = s.pred_count();
+    let mut rises = Word::of(0, K3::No);
+    for (p, pred) in vocab.preds.as_slice().iter().enumerate() {
+        if tells_apart(pred) {
+            match with_rises(rises, s.unary_word(PredId(p as u32), 0), s.size()) {
+                None => return false,
+                Some(told) => rises = told,
+            }
+            if all_rise(rises, s.size() - 1) {
+                return true;
+            }
+        }
+    }
+    all_rise(rises, s.size() - 1)
 }
 
 /// Whether the individuals have different names and stand in their order. Names are compared predicate by
@@ -105,17 +179,33 @@ fn are_ascending(vocab: &Vocab, s: &Structure) -> bool
     ensures { IsTrue result
         ↔ FollowsNames (abstraction_preds vocab.now) (structure_of s.now) s.now.size (λ u. u) }
 {
-    let _ = s.pred_count();
     if s.size() < 2 {
         return true;
     }
+    if s.size() <= ROOM {
+        return are_ascending_in(vocab, s);
+    }
+    are_ascending_by_rows(vocab, s)
+}
+
+/// The same, row by row.
+#[inline(never)]
+fn are_ascending_by_rows(vocab: &Vocab, s: &Structure) -> bool
+    requires over { IsOver vocab.now s.now }
+    requires several { 1 < s.now.size }
+    ensures { IsTrue result
+        ↔ FollowsNames (abstraction_preds vocab.now) (structure_of s.now) s.now.size (λ u. u) }
+{
+    let _ = s.pred_count();
     let mut rises = Row::of(s.size().saturating_sub(1), K3::No);
     for (p, pred) in vocab.preds.as_slice().iter().enumerate() {
-        if !add_pred(&mut rises, s, p as u32, pred) {
-            return false;
-        }
-        if rises.are_possible() {
-            return true;
+        if is_told(s, p as u32, pred) {
+            if !add_rises(&mut rises, &s.unary_row(PredId(p as u32))) {
+                return false;
+            }
+            if rises.are_possible() {
+                return true;
+            }
         }
     }
     rises.are_possible()

@@ -7,7 +7,7 @@ ghost use Rattle.tv_blur.specs.Names.{abstraction_preds};
 ghost use Rattle.tv_blur.specs.Blur.{IsBlur, IsBlurred};
 
 use crate::ascending::is_blurred;
-use crate::classes::{abstraction_preds, classes};
+use crate::classes::classes;
 use crate::merge::merged;
 use crate::names::CanonicalNames;
 use std::alloc::{AllocError, Global};
@@ -56,8 +56,7 @@ fn regrouped(alloc: Global, vocab: &Vocab, s: &Structure) -> Result<Structure, A
     ensures kept { IfOk result IsStructure }
 {
     let _ = s.size();
-    let preds = abstraction_preds(alloc, vocab, s)?;
-    let names = CanonicalNames::of(alloc, preds.as_slice(), s)?;
+    let names = CanonicalNames::of(alloc, vocab, s)?;
     let classes = classes(alloc, &names)?;
     merged(alloc, s, &classes)
 }

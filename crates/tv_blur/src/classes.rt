@@ -1,60 +1,14 @@
 //! The classes of individuals that have one name.
 
-ghost use Rattle.std.specs.Prelude.{◌≡◌, ◌≢◌, ◌<◌, ◌≤◌, ◌↔◌, ◌+◌, ℕ, [], ◌∷◌, ◌++◌, length, All, IfOk};
-ghost use Rattle.std.specs.Prelude.{IsTrue, OnOk, MatchBool, if◌then◌else◌, Some, slice_get};
+ghost use Rattle.std.specs.Prelude.{◌≡◌, ◌≢◌, ◌<◌, ◌≤◌, ◌↔◌, ◌+◌, ℕ, length, IfOk, IsTrue, OnOk, MatchBool};
 ghost use Rattle.std.specs.declared.cmp.Ordering.TheVariants.{Less, Equal};
-ghost use Rattle.tv_struct.specs.StructureForm.{IsOver, arities_of};
-ghost use Rattle.tv_blur.specs.Names.{abstraction_preds, is_abstraction, name_cmp};
+ghost use Rattle.tv_blur.specs.Names.{name_cmp};
 ghost use Rattle.tv_blur.specs.Naming.{HoldsNames, IsGathered, class_name, canonical_name_in, named_in};
 
 use crate::class::Class;
 use crate::names::CanonicalNames;
-use smallvec::SmallVec;
 use std::alloc::{AllocError, Global};
 use std::cmp::Ordering;
-use tv_model::{Pred, Vocab};
-use tv_struct::Structure;
-
-/// So many abstraction predicates are listed without an allocation.
-const FEW: usize = 16;
-
-/// Numbers of predicates. A list of few takes no memory.
-pub type PredNumbers = SmallVec<u32, FEW>;
-
-/// The unary abstraction predicates, by number, in declaration order.
-#[tactic(auto, using(crate::proofs::ClassLaws::abstraction_more))]
-pub fn abstraction_preds(
-    alloc: Global,
-    vocab: &Vocab,
-    s: &Structure,
-) -> Result<PredNumbers, AllocError>
-    requires { IsOver vocab.now s.now }
-    ensures value { IfOk result (λ preds. preds.items ≡ abstraction_preds vocab.now) }
-    ensures unary { IfOk result (λ preds. All (λ p. slice_get (arities_of s.now) p ≡ Some 1) preds.items) }
-{
-    let _ = s.pred_count();
-    let mut preds = PredNumbers::new(alloc);
-    for (p, pred) in vocab.preds.as_slice().iter().enumerate() {
-        push_if(&mut preds, p as u32, tells_apart(pred))?;
-    }
-    Ok(preds)
-}
-
-/// Whether individuals are told apart by the predicate.
-pub fn tells_apart(pred: &Pred) -> bool
-    ensures { result ≡ is_abstraction pred.now }
-{
-    pred.arity == 1 && pred.abs
-}
-
-fn push_if(numbers: &mut PredNumbers, n: u32, is_kept: bool) -> Result<(), AllocError>
-    ensures { OnOk result (numbers.new.items ≡ numbers.old.items ++ (if is_kept then n ∷ [] else [])) }
-{
-    if is_kept {
-        numbers.push(n)?;
-    }
-    Ok(())
-}
 
 /// The classes of the individuals that have one name, in the order of their names.
 pub fn classes(alloc: Global, names: &CanonicalNames) -> Result<Vec<Class>, AllocError>

@@ -10,6 +10,7 @@ mod laws;
 mod merge;
 mod names;
 mod values;
+mod words;
 
 pub use ascending::is_blurred;
 pub use canonical::{blur, into_blurred};

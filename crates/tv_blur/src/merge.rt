@@ -1,16 +1,19 @@
 //! The structure in which the individuals of each class are one.
 
-ghost use Rattle.std.specs.Prelude.{◌≡◌, ◌<◌, ℕ, None, All, length, IfOk};
-ghost use Rattle.tv_struct.specs.StructureForm.{IsStructure, arities_of, summary_at};
-ghost use Rattle.tv_struct.specs.StructureRows.{HasArity};
-ghost use Rattle.tv_blur.specs.Classes.{AreClasses, ChangesOnly, HasMergedValues, HasMerged};
+ghost use Rattle.std.specs.Prelude.{◌≡◌, ◌<◌, ℕ, None, All, false, length, IfOk};
+ghost use Rattle.tv_struct.specs.StructureForm.{IsStructure, StructureForm, arities_of, summary_at};
+ghost use Rattle.tv_struct.specs.StructureRows.{HasArity, summary_row};
+ghost use Rattle.tv_blur.specs.Classes.{AreClasses, ChangesOnly, FitWord, HasMergedValues, HasMerged};
 ghost use Rattle.tv_blur.specs.Classes.{IsBlank, IsBlankFrom};
 ghost use Rattle.tv_blur.specs.Classes.{is_merged_summary, class_at};
 
 use crate::class::Class;
 use crate::values::{joined_rows, merged_row};
+use crate::words::{fit_word, has_possible, joined_words, merged_in};
 use std::alloc::{AllocError, Global};
+use tv_kleene::K3;
 use tv_model::PredId;
+use tv_row::Row;
 use tv_struct::{Structure, Tuple, is_nowhere};
 
 /// The structure with one individual for each class, in their order, and joined values.
@@ -30,22 +33,32 @@ fn put_summaries(t: &mut Structure, s: &Structure, classes: &[Class])
     requires size { t.old.size ≡ length classes.now }
     requires over { arities_of t.old ≡ arities_of s.now }
     requires fresh { t.old.fresh ≡ None }
+    requires plain { (w : ℕ) → summary_at t.old w ≡ false }
     requires blank { IsBlankFrom 0 t.old }
     ensures merged { HasMerged classes.now s.now 0 t.new }
     ensures blank { IsBlankFrom 0 t.new }
 {
-    let _ = t.size();
+    let _ = (t.size(), s.size());
+    let summaries = s.summary_row();
     for (w, members) in classes.iter().enumerate() {
-        t.set_summary(w as u32, is_summary(s, members));
+        if is_summary(&summaries, members) {
+            t.set_summary(w as u32, true);
+        }
     }
 }
 
-fn is_summary(s: &Structure, members: &Class) -> bool
+/// Whether the class is a summary, by the flags of all individuals.
+fn is_summary(summaries: &Row, members: &Class) -> bool
     requires some { 0 < length members.now }
-    requires within { All (λ u. u < s.now.size) members.now }
-    ensures { result ≡ is_merged_summary s.now members.now }
+    requires within { All (λ u. u < length summaries.now) members.now }
+    ensures { (s : StructureForm) → summaries.now ≡ summary_row s
+        → result ≡ is_merged_summary s members.now }
 {
-    members.has_several() || s.summary(members.first())
+    members.has_several()
+        || match summaries.get(members.first()) {
+            K3::No => false,
+            K3::Half | K3::Yes => true,
+        }
 }
 
 fn put_all(t: &mut Structure, s: &Structure, classes: &[Class])
@@ -80,11 +93,15 @@ fn put_values(t: &mut Structure, s: &Structure, classes: &[Class], p: PredId)
 fn put_value(t: &mut Structure, s: &Structure, classes: &[Class], p: PredId)
     requires over { arities_of t.old ≡ arities_of s.now }
     requires arity { HasArity s.now p.0 0 }
+    requires blank { IsBlank p.0 t.old }
     ensures changes { ChangesOnly p.0 t.old t.new }
     ensures values { HasMergedValues classes.now s.now p.0 t.new }
 {
     let _ = t.size();
-    t.set(p, Tuple::Zero, s.get(p, Tuple::Zero));
+    match s.get(p, Tuple::Zero) {
+        K3::No => {}
+        k => t.set(p, Tuple::Zero, k),
+    }
 }
 
 fn put_row(t: &mut Structure, s: &Structure, classes: &[Class], p: PredId)
@@ -97,14 +114,49 @@ fn put_row(t: &mut Structure, s: &Structure, classes: &[Class], p: PredId)
     ensures values { HasMergedValues classes.now s.now p.0 t.new }
 {
     let _ = t.size();
-    if is_nowhere(s, p) {
-        return;
+    if fit_word(s, classes) {
+        put_word(t, s, classes, p);
+    } else if !is_nowhere(s, p) {
+        t.set_unary_row(p, &merged_row(&s.unary_row(p), classes));
     }
-    let row = s.unary_row(p);
-    t.set_unary_row(p, &merged_row(&row, classes));
+}
+
+/// The same, where values stand in one word.
+fn put_word(t: &mut Structure, s: &Structure, classes: &[Class], p: PredId)
+    requires classes { AreClasses s.now classes.now }
+    requires fit { FitWord s.now classes.now }
+    requires size { t.old.size ≡ length classes.now }
+    requires over { arities_of t.old ≡ arities_of s.now }
+    requires arity { HasArity s.now p.0 1 }
+    requires blank { IsBlank p.0 t.old }
+    ensures changes { ChangesOnly p.0 t.old t.new }
+    ensures values { HasMergedValues classes.now s.now p.0 t.new }
+{
+    let _ = t.size();
+    let word = s.unary_word(p, 0);
+    if has_possible(word, s.size()) {
+        t.set_unary_row(p, &merged_in(word, classes));
+    }
 }
 
 fn put_rows(t: &mut Structure, s: &Structure, classes: &[Class], p: PredId)
+    requires classes { AreClasses s.now classes.now }
+    requires size { t.old.size ≡ length classes.now }
+    requires over { arities_of t.old ≡ arities_of s.now }
+    requires arity { HasArity s.now p.0 2 }
+    requires blank { IsBlank p.0 t.old }
+    ensures changes { ChangesOnly p.0 t.old t.new }
+    ensures values { HasMergedValues classes.now s.now p.0 t.new }
+{
+    if fit_word(s, classes) {
+        put_words(t, s, classes, p);
+    } else {
+        put_more_rows(t, s, classes, p);
+    }
+}
+
+/// The same, row by row.
+fn put_more_rows(t: &mut Structure, s: &Structure, classes: &[Class], p: PredId)
     requires classes { AreClasses s.now classes.now }
     requires size { t.old.size ≡ length classes.now }
     requires over { arities_of t.old ≡ arities_of s.now }
@@ -115,5 +167,24 @@ fn put_rows(t: &mut Structure, s: &Structure, classes: &[Class], p: PredId)
     for (w, members) in classes.iter().enumerate() {
         let joined = joined_rows(s, p, members);
         t.set_row(p, w as u32, &merged_row(&joined, classes));
+    }
+}
+
+/// The same, where values stand in one word.
+fn put_words(t: &mut Structure, s: &Structure, classes: &[Class], p: PredId)
+    requires classes { AreClasses s.now classes.now }
+    requires fit { FitWord s.now classes.now }
+    requires size { t.old.size ≡ length classes.now }
+    requires over { arities_of t.old ≡ arities_of s.now }
+    requires arity { HasArity s.now p.0 2 }
+    requires blank { IsBlank p.0 t.old }
+    ensures changes { ChangesOnly p.0 t.old t.new }
+    ensures values { HasMergedValues classes.now s.now p.0 t.new }
+{
+    for (w, members) in classes.iter().enumerate() {
+        let joined = joined_words(s, p, members);
+        if has_possible(joined, s.size()) {
+            t.set_row(p, w as u32, &merged_in(joined, classes));
+        }
     }
 }

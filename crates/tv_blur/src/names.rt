@@ -1,49 +1,47 @@
-//! The names of individuals, as words of bits.
+//! The names of individuals, as rows of values.
 
-ghost use Rattle.std.specs.Prelude.{◌≡◌, ◌<◌, ◌≤◌, ℕ, length, map, replicate, take, drop, All, IfOk, Some};
-ghost use Rattle.std.specs.Prelude.{slice_get};
-ghost use Rattle.std.specs.List.{range_with_len};
+ghost use Rattle.std.specs.Prelude.{◌≡◌, ◌<◌, ℕ, [], ◌∷◌, All, IfOk, IsTrue, MatchBool, OnOk, Some};
+ghost use Rattle.std.specs.Prelude.{length, slice_get};
 ghost use Rattle.tv_kleene.specs.declared.K3.TheVariants.{No};
 ghost use Rattle.tv_row.specs.Bits.{value_cmp};
-ghost use Rattle.tv_row.specs.Places.{entry_in};
-ghost use Rattle.tv_struct.specs.StructureForm.{arities_of, structure_of};
-ghost use Rattle.tv_blur.specs.Names.{canonical_name, name_cmp};
-ghost use Rattle.tv_blur.specs.Naming.{AreNames, HoldsNames, HasColumn, canonical_name_in, name_word};
-ghost use Rattle.tv_blur.specs.Naming.{named_in, rest_in};
+ghost use Rattle.tv_struct.specs.StructureForm.{IsOver, arities_of, value_at};
+ghost use Rattle.tv_struct.specs.StructureRows.{HasArity};
+ghost use Rattle.tv_blur.specs.Names.{abstraction_preds, is_abstraction, name_cmp};
+ghost use Rattle.tv_blur.specs.Naming.{AreNames, AddsRow, HoldsNames, TellNames, canonical_name_in};
+ghost use Rattle.tv_blur.specs.Naming.{name_in_rows, named_in};
 
+use crate::words::{ROOM, has_possible};
 use std::alloc::{AllocError, Global};
 use std::cmp::Ordering;
 use tv_kleene::K3;
-use tv_model::PredId;
-use tv_row::{Row, Word};
-use tv_struct::{Structure, Tuple};
+use tv_model::{Pred, PredId, Vocab};
+use tv_row::Row;
+use tv_struct::{Structure, is_nowhere};
 
-/// How many values of a name stand in its word.
-const ROOM: usize = 64;
+/// So many rows are kept in the first piece of memory.
+const FEW: usize = 8;
 
-/// The names of the individuals of a structure by some unary predicates: of each individual its values of
-/// the first 64 of them in one word. What is behind these is read in the structure.
+/// The names of the individuals of a structure by the unary abstraction predicates: the values of each
+/// predicate that isn't `No` everywhere. The others tell no individuals apart.
 #[derive(Drop)]
 pub struct CanonicalNames<'a> {
-    preds: &'a [u32],
     structure: &'a Structure,
-    words: Vec<Word>,
+    rows: Vec<Row>,
 }
 
 impl<'a> CanonicalNames<'a> {
     /// The names of all individuals.
     pub fn of(
         alloc: Global,
-        preds: &'a [u32],
+        vocab: &Vocab,
         s: &'a Structure,
     ) -> Result<CanonicalNames<'a>, AllocError>
-        requires { All (λ p. slice_get (arities_of s.now) p ≡ Some 1) preds.now }
-        ensures { IfOk result (AreNames preds.now s.now) }
+        requires { IsOver vocab.now s.now }
+        ensures { IfOk result (AreNames (abstraction_preds vocab.now) s.now) }
     {
         Ok(CanonicalNames {
-            preds,
             structure: s,
-            words: words(alloc, &preds[..preds.len().min(ROOM)], s)?,
+            rows: rows(alloc, vocab, s)?,
         })
     }
 
@@ -54,72 +52,67 @@ impl<'a> CanonicalNames<'a> {
         self.structure
     }
 
-    /// Compares the names of two individuals, place by place, with No < Half < Yes.
+    /// Compares the names of two individuals, value by value, with No < Half < Yes.
     pub fn compare(&self, u: u32, w: u32) -> Ordering
         requires names { HoldsNames self.now }
         requires one { u < (named_in self.now).size }
         requires other { w < (named_in self.now).size }
         ensures { result ≡ name_cmp (canonical_name_in self.now u) (canonical_name_in self.now w) }
     {
-        match self.words[u as usize].compare(self.words[w as usize]) {
-            Ordering::Equal => self.compare_rest(u, w),
-            order => order,
-        }
-    }
-
-    /// Compares the names of two individuals by the predicates behind the first 64.
-    fn compare_rest(&self, u: u32, w: u32) -> Ordering
-        requires names { HoldsNames self.now }
-        requires one { u < (named_in self.now).size }
-        requires other { w < (named_in self.now).size }
-        ensures { result ≡ name_cmp (rest_in self.now u) (rest_in self.now w) }
-    {
-        let (_, rest) = self.preds.split_at(self.preds.len().min(ROOM));
-        compare_values(rest, self.structure, u, w)
+        compare_values(self.rows.as_slice(), u, w)
     }
 }
 
-/// Of each individual its values of the predicates, and `No` behind them.
-fn words(alloc: Global, preds: &[u32], s: &Structure) -> Result<Vec<Word>, AllocError>
-    requires few { length preds.now ≤ 64 }
-    requires preds { All (λ p. slice_get (arities_of s.now) p ≡ Some 1) preds.now }
-    ensures { IfOk result
-        (λ words. words.items
-        ≡ map (name_word preds.now (structure_of s.now)) (range_with_len 0 s.now.size)) }
+/// The values of the unary abstraction predicates, in their order, but for those that are `No` everywhere.
+fn rows(alloc: Global, vocab: &Vocab, s: &Structure) -> Result<Vec<Row>, AllocError>
+    requires { IsOver vocab.now s.now }
+    ensures { IfOk result (λ rows. TellNames (abstraction_preds vocab.now) s.now rows.items) }
 {
-    let mut words = words_of_no(alloc, s.size())?;
-    for (column, p) in preds.iter().enumerate() {
-        put_column(&mut words, column as u32, &s.unary_row(PredId(*p)));
+    let _ = s.pred_count();
+    let mut rows = Vec::with_capacity(alloc, FEW)?;
+    for (p, pred) in vocab.preds.as_slice().iter().enumerate() {
+        add_row(&mut rows, s, p as u32, pred)?;
     }
-    Ok(words)
+    Ok(rows)
 }
 
-#[tactic(auto, unfolding(tv_row::specs::Bits::padded))]
-fn words_of_no(alloc: Global, count: u32) -> Result<Vec<Word>, AllocError>
-    ensures { IfOk result (λ words. words.items ≡ replicate count (replicate 64 No)) }
+/// Puts the values of the predicate behind the others, where individuals may be told apart by it.
+fn add_row(rows: &mut Vec<Row>, s: &Structure, p: u32, pred: &Pred) -> Result<(), AllocError>
+    requires pred { slice_get (arities_of s.now) p ≡ Some pred.now.arity }
+    ensures { OnOk result (AddsRow (is_abstraction pred.now) s.now p rows.old.items rows.new.items) }
 {
-    let mut words = Vec::with_capacity(alloc, count as usize)?;
-    for _ in 0..count {
-        words.push(Word::of(0, K3::No))?;
+    if is_told(s, p, pred) {
+        rows.push(s.unary_row(PredId(p)))?;
     }
-    Ok(words)
+    Ok(())
 }
 
-/// Puts the values, one into each word, into a column that is `No` everywhere.
-fn put_column(words: &mut [Word], column: u32, values: &Row)
-    requires count { length values.now ≡ length words.old }
-    requires place { column < 64 }
-    requires room { All (λ word. column < length word) words.old }
-    requires blank { (u : ℕ) → entry_in words.old u column ≡ No }
-    ensures { HasColumn column values.now words.old words.new }
+/// Whether individuals are told apart by the predicate.
+pub fn tells_apart(pred: &Pred) -> bool
+    ensures { result ≡ is_abstraction pred.now }
 {
-    let _ = values.size();
-    let mut from = 0;
-    while let Some(u) = values.next_possible(from) {
-        let word = words[u as usize];
-        words[u as usize] = word.with(column, values.get(u));
-        from = u + 1;
+    pred.arity == 1 && pred.abs
+}
+
+/// Whether some may be told apart by it in this structure.
+pub fn is_told(s: &Structure, p: u32, pred: &Pred) -> bool
+    requires { slice_get (arities_of s.now) p ≡ Some pred.now.arity }
+    ensures { MatchBool result (IsTrue (is_abstraction pred.now))
+        (IsTrue (is_abstraction pred.now) → (u : ℕ) → u < s.now.size → value_at s.now p (u ∷ []) ≡ No) }
+{
+    tells_apart(pred) && !is_no(s, PredId(p))
+}
+
+/// True only where the unary predicate is `No` at each individual.
+#[inline(always)]
+fn is_no(s: &Structure, p: PredId) -> bool
+    requires { HasArity s.now p.0 1 }
+    ensures { IsTrue result → (u : ℕ) → u < s.now.size → value_at s.now p.0 (u ∷ []) ≡ No }
+{
+    if 0 < s.size() && s.size() <= ROOM {
+        return !has_possible(s.unary_word(p, 0), s.size());
     }
+    is_nowhere(s, p)
 }
 
 /// Compares two values, with No < Half < Yes.
@@ -129,24 +122,17 @@ pub fn compare_value(j: K3, k: K3) -> Ordering
     j.cmp(&k)
 }
 
-/// Compares the names of two individuals, value by value.
-fn compare_values(preds: &[u32], s: &Structure, u: u32, w: u32) -> Ordering
-    requires preds { All (λ p. slice_get (arities_of s.now) p ≡ Some 1) preds.now }
-    requires one { u < s.now.size }
-    requires other { w < s.now.size }
-    ensures { result
-        ≡ name_cmp (canonical_name preds.now (structure_of s.now) u)
-        (canonical_name preds.now (structure_of s.now) w) }
+/// Compares the values of two individuals, row by row.
+fn compare_values(rows: &[Row], u: u32, w: u32) -> Ordering
+    requires one { All (λ row. u < length row) rows.now }
+    requires other { All (λ row. w < length row) rows.now }
+    ensures { result ≡ name_cmp (name_in_rows rows.now u) (name_in_rows rows.now w) }
 {
-    match preds {
-        [] => Ordering::Equal,
-        [p, rest @ ..] => {
-            let one = s.get(PredId(*p), Tuple::One(u));
-            let other = s.get(PredId(*p), Tuple::One(w));
-            match compare_value(one, other) {
-                Ordering::Equal => compare_values(rest, s, u, w),
-                order => order,
-            }
+    for i in 0..rows.len() {
+        let (j, k) = (rows[i].get(u), rows[i].get(w));
+        if j != k {
+            return compare_value(j, k);
         }
     }
+    Ordering::Equal
 }

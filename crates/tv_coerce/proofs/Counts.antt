@@ -12,10 +12,11 @@ use Rattle.tv_row.proofs.WordOps.{length-paired, get_or-paired}
 use Rattle.tv_model.specs.Truth.{Assignment, put}
 use Rattle.tv_coerce_members.specs.Members.{AreSteps, IsSteppedBy, MemberForm, is_literal}
 use Rattle.tv_coerce_members.specs.declared.levels.Step.{Step}
-use Rattle.tv_eval.specs.Along.{IsWordAlong}
 use Rattle.tv_eval_laws.specs.Value.{value}
 use Rattle.tv_struct.specs.StructureForm.{StructureForm, structure_of}
-use Rattle.tv_coerce.specs.Counting.{CountTells, IsAt, IsBarring, IsCounted, IsIdle, Lacks, count_of, counted}
+use Rattle.tv_coerce.specs.Counting.{CountTells, IsAt, IsBarring, IsCounted, IsIdle, IsReadOf, Lacks}
+use Rattle.tv_coerce.specs.Counting.{count_of, counted}
+use Rattle.tv_coerce.specs.Steps.{CountedBy, IdleStep, LacksStep}
 
 -- ---- values
 
@@ -40,6 +41,21 @@ pub counted-half : (x y : K3) → counted x y ≡ Half → (x ≡ Half) ⊎ (y �
 counted-half No y e = absurd (cc e)
 counted-half Half y e = inl refl
 counted-half Yes y e = inr e
+
+pub counted-yes : (x : K3) → counted x Yes ≡ x
+counted-yes No = refl
+counted-yes Half = refl
+counted-yes Yes = refl
+
+pub sure-half : (x : K3) → x ≢ No → yes_unless_no x x ≡ No → x ≡ Half
+sure-half No some e = absurd (some refl)
+sure-half Half some e = refl
+sure-half Yes some e = absurd (cc e)
+
+pub sure-yes : (x : K3) → yes_unless_no x x ≢ No → x ≡ Yes
+sure-yes No other = absurd (other refl)
+sure-yes Half other = absurd (other refl)
+sure-yes Yes other = refl
 
 -- how a member counts
 count-no : (literal : Bool) (k : K3) → count_of literal k ≡ No → (k ≡ No) ⊎ ((literal ≡ false) × (k ≢ Yes))
@@ -101,7 +117,7 @@ definite-bits Yes Yes = refl
 -- ---- one member
 
 module _ (s : StructureForm) (a : Assignment) (v chunk : ℕ) (m : MemberForm) (word along : List K3)
-    (long : length word ≡ 64) (is : IsWordAlong s a v chunk m.form along) where
+    (long : length word ≡ 64) (is : IsReadOf s a v chunk m.form word along) where
   -- the new word has how the member counts, whether or not it is a literal
   one-counted : (literal : Bool) (new : List K3) → is_literal m.form ≡ literal → length new ≡ 64
       → ((i : ℕ) → i < 64 → get_or new i No ≡ counted (get_or word i No) (count_of literal (get_or along i No)))
@@ -109,24 +125,26 @@ module _ (s : StructureForm) (a : Assignment) (v chunk : ℕ) (m : MemberForm) (
   one-counted literal new kind same each = record {
     long = same;
     some = λ i low some. counted-some (get_or word i No) (count_of literal (get_or along i No)) (λ e. some (each i low ∙ e));
-    no = λ i low within some none. at i low within (counted-no (get_or word i No) (count_of literal (get_or along i No)) some
+    no = λ i low within some none. at i low within some (counted-no (get_or word i No) (count_of literal (get_or along i No)) some
         (sym (each i low) ∙ none));
     half = λ i low within is-half. ⊎_elim (λ was. inl was)
         (λ here. inr (λ yes. count-lacks literal (get_or along i No)
-        (λ f. let clash : Half ≡ Yes = sym here ∙ f in absurd (cc)) (is.each i low within ∙ yes)))
+        (λ f. let clash : Half ≡ Yes = sym here ∙ f in absurd (cc))
+        (is.each i low within (counted-some (get_or word i No) (count_of literal (get_or along i No))
+        (λ e. let clash : Half ≡ No = sym is-half ∙ each i low ∙ e in absurd (cc))) ∙ yes)))
         (counted-half (get_or word i No) (count_of literal (get_or along i No)) (sym (each i low) ∙ is-half));
   }
     where
-      at : (i : ℕ) → i < 64 → 64 * chunk + i < s.size
+      at : (i : ℕ) → i < 64 → 64 * chunk + i < s.size → get_or word i No ≢ No
           → (count_of literal (get_or along i No) ≡ No) ⊎ ((get_or word i No ≡ Half) × (count_of literal (get_or along i No) ≢ Yes))
           → IsBarring s (put a v (64 * chunk + i)) m
           ⊎ ((get_or word i No ≡ Half) × (value (structure_of s) (put a v (64 * chunk + i)) m.form ≢ Yes))
-      at i low within (inl none) =
-          inl (⊎_elim (λ e. inl (sym (is.each i low within) ∙ e))
-          (λ other. inr (kind ∙ other.0, λ yes. other.1 (is.each i low within ∙ yes)))
+      at i low within some (inl none) =
+          inl (⊎_elim (λ e. inl (sym (is.each i low within some) ∙ e))
+          (λ other. inr (kind ∙ other.0, λ yes. other.1 (is.each i low within some ∙ yes)))
           (count-no literal (get_or along i No) none))
-      at i low within (inr two) =
-          inr (two.0, λ yes. count-lacks literal (get_or along i No) two.1 (is.each i low within ∙ yes))
+      at i low within some (inr two) =
+          inr (two.0, λ yes. count-lacks literal (get_or along i No) two.1 (is.each i low within some ∙ yes))
 
   pair-at : (op : K3 → K3 → K3) (i : ℕ) → i < 64 → get_or (paired op word along) i No ≡ op (get_or word i No) (get_or along i No)
   pair-at op i low = get_or-paired op word along i (omega (arith, low, long)) (omega (arith, low, is.long))
@@ -155,33 +173,6 @@ module _ (s : StructureForm) (a : Assignment) (v chunk : ℕ) (m : MemberForm) (
 some-and : {X : Type 0} (o : Option X) (P : X → Type 0) → IsSomeAnd o P → (x : X) × (o ≡ Some x) × P x
 some-and None P none = absurd none
 some-and (Some x) P holds = (x, refl, holds)
-
--- one of the first steps is of a member that isn't Yes
-pub record LacksStep (s : StructureForm) (ms : List MemberForm) (steps : List Step) (count : ℕ) (b : Assignment) : Type 0 where
-  pub at : ℕ
-  pub step : Step
-  pub member : MemberForm
-  pub before : at < count
-  pub found : slice_get steps at ≡ Some step
-  pub there : slice_get ms step.member ≡ Some member
-  pub lacks : value (structure_of s) b member.form ≢ Yes
-
-pub record BarsStep (s : StructureForm) (ms : List MemberForm) (steps : List Step) (b : Assignment) : Type 0 where
-  pub at : ℕ
-  pub step : Step
-  pub member : MemberForm
-  pub found : slice_get steps at ≡ Some step
-  pub there : slice_get ms step.member ≡ Some member
-  pub bars : IsBarring s b member
-
--- one of them bars, or two of them lack
-pub record LacksSteps (s : StructureForm) (ms : List MemberForm) (steps : List Step) (count : ℕ) (b : Assignment) : Type 0 where
-  pub one : LacksStep s ms steps count b
-  pub other : LacksStep s ms steps count b
-  pub apart : one.at ≢ other.at
-
-abbrev pub IdleStep : StructureForm → List MemberForm → List Step → ℕ → Assignment → Type 0
-IdleStep s ms steps count b = BarsStep s ms steps b ⊎ LacksSteps s ms steps count b
 
 module _ (s : StructureForm) (ms : List MemberForm) (steps : List Step) (b : Assignment) where
   abbrev lacks-later : (count : ℕ) → LacksStep s ms steps count b → LacksStep s ms steps (count + 1) b
@@ -257,11 +248,6 @@ module _ (s : StructureForm) (ms : List MemberForm) (steps : List Step) (b : Ass
     })
 
 -- ---- the word so far
-
-abbrev pub CountedBy : StructureForm → Assignment → (v chunk : ℕ) → List MemberForm → (steps : List Step) → (count : ℕ)
-    → (old new : List K3) → Type 0
-CountedBy s a v chunk ms steps count old new =
-    IsCounted s.size a v chunk (LacksStep s ms steps count) (IdleStep s ms steps count) old new
 
 module _ (s : StructureForm) (a : Assignment) (v chunk : ℕ) (ms : List MemberForm) (steps : List Step) where
   pub counted-begins : (word : List K3) → length word ≡ 64 → CountedBy s a v chunk ms steps 0 word word

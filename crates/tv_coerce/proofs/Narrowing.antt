@@ -1,11 +1,11 @@
 -- What is narrowed of the variables before a walk.
-use Rattle.std.proofs.Common.{ℕ, ◌≡◌, ◌≢◌, ◌<◌, ◌≤◌, ◌+◌, ◌-◌, ◌*◌, ◌⊎◌, inl, inr, ⊎_elim, zero, suc, Bool}
+use Rattle.std.proofs.Common.{ℕ, ◌≡◌, ◌≢◌, ◌<◌, ◌≤◌, ◌+◌, ◌-◌, ◌*◌, ◌⊎◌, inl, inr, zero, suc, Bool}
 use Rattle.std.proofs.Common.{true, false}
-use Rattle.std.proofs.Common.{List, [], ◌∷◌, ◌++◌, length, get_or, Option, Some, slice_get, refl, sym, ap}
+use Rattle.std.proofs.Common.{List, [], ◌∷◌, ◌++◌, length, get_or, Some, slice_get, refl, sym, ap}
 use Rattle.std.proofs.Common.{subst}
 use Rattle.std.proofs.Common.{◌∙◌, arith}
 use Rattle.std.specs.Prelude.{All, Contains, slice_set}
-use Rattle.std.proofs.Common.{cond, ltb, replicate}
+use Rattle.std.proofs.Common.{ltb, replicate}
 use Rattle.std.proofs.lemmas.Bool.{cases_eq, cond-true, lt-ltb}
 use Rattle.std.proofs.lemmas.List.{append_assoc, get_or-map, get_or-set_other, get_or-set_same}
 use Rattle.std.proofs.lemmas.List.{get_or_default, length-append}
@@ -29,7 +29,7 @@ use Rattle.tv_eval_laws.specs.Value.{value}
 use Rattle.tv_eval_laws.proofs.Agreed.{only_free_variables_matter}
 use Rattle.tv_eval.specs.Along.{IsWordAlong}
 use Rattle.tv_struct.specs.StructureForm.{StructureForm, arities_of, structure_of}
-use Rattle.tv_coerce.specs.Counting.{AreLeft, AreOf, Bars, CountTells, IsAt, IsBarring, IsBest, IsIdle}
+use Rattle.tv_coerce.specs.Counting.{AreLeft, AreOf, CountTells, IsAt, IsBarring, IsBest, IsIdle}
 use Rattle.tv_coerce.specs.Counting.{IsLater, IsNarrowed, IsSeen}
 use Rattle.tv_coerce.specs.Counting.{Lacks, Tells, counted, members_in, variable_at, variables_in}
 use Rattle.tv_coerce.specs.Opened.{IsGoingOn}

@@ -1,9 +1,11 @@
 -- What is read of a literal for the individuals that a variable may stand for.
-use Rattle.std.proofs.Common.{ℕ, ◌≡◌, ◌≢◌, ◌<◌, ◌+◌, ◌*◌, inl, inr, ◌⊎◌, Bool, true, false, List, []}
+use Rattle.std.proofs.Common.{ℕ, ◌≡◌, ◌≢◌, ◌<◌, ◌≤◌, ◌+◌, ◌*◌, ◌==◌, if◌then◌else◌, inl, inr, ◌⊎◌, Bool, true}
+use Rattle.std.proofs.Common.{false, List, []}
 use Rattle.std.proofs.Common.{◌∷◌}
 use Rattle.std.proofs.Common.{length, get_or, Option, Some, slice_get, refl, sym, ap, subst, ◌∙◌, arith}
-use Rattle.std.specs.Prelude.{option_map}
-use Rattle.std.proofs.lemmas.List.{length-map}
+use Rattle.std.specs.Prelude.{IsSomeAnd, option_map, slice_set}
+use Rattle.std.proofs.lemmas.Bool.{cases_eq, cases_lt, cond-false, cond-true, eq-eqb, ne_eqb}
+use Rattle.std.proofs.lemmas.List.{get_or-set_other, get_or-set_same, length-map}
 use Rattle.std.proofs.lemmas.Option.{same_Some, slice_get-get_or, slice_get-map, slice_get_read}
 use Rattle.std.proofs.lemmas.Option.{slice_get_within}
 use Rattle.tv_kleene.specs.declared.K3.{K3}
@@ -11,16 +13,16 @@ use Rattle.tv_kleene.specs.declared.K3.TheVariants.{No}
 use Rattle.tv_model.specs.Form.{Form, FAtom, FSame, FExists, IsFree}
 use Rattle.tv_model.specs.Truth.{Assignment, put}
 use Rattle.tv_model.specs.Valid.{IsFormulaOver}
-use Rattle.tv_coerce_members.specs.Members.{MemberForm, member_of, members_of, signed}
+use Rattle.tv_coerce_members.specs.Members.{MemberForm, is_literal, member_of, members_of, signed}
 use Rattle.tv_coerce_members.specs.declared.members.Member.{Member}
 use Rattle.tv_eval_laws.specs.Value.{value, same_value}
 use Rattle.tv_eval.specs.Along.{IsWordAlong, IsWordOf}
-use Rattle.tv_eval.specs.AssignmentForm.{assignment_of, individual_for}
+use Rattle.tv_eval.specs.AssignmentForm.{IsAssigned, assignment_of, individual_for}
 use Rattle.tv_eval.specs.Formulas.{AreAssigned}
 use Rattle.tv_eval.proofs.AlongLaws.{atom_one, atom_two, put_same, put_other, same_two, same_turned}
 use Rattle.tv_eval.proofs.AlongWords.{same-word}
 use Rattle.tv_struct.specs.StructureForm.{StructureForm, structure_of, value_at}
-use Rattle.tv_coerce.specs.Counting.{signed_value}
+use Rattle.tv_coerce.specs.Counting.{IsReadOf, signed_value}
 use Rattle.tv_coerce.proofs.Heads.{placed}
 
 -- ---- the member of a step
@@ -53,6 +55,10 @@ free-signed : (flag : Bool) (f g : Form) (x : ℕ) → f ≡ signed flag g → I
 free-signed true f g x is free = subst (IsFree x) (sym is) free
 free-signed false f g x is free = subst (IsFree x) (sym is) free
 
+pub literal-atom : (flag : Bool) (f : Form) (p : ℕ) (vars : List ℕ) → f ≡ signed flag (FAtom p vars) → is_literal f ≡ true
+literal-atom true f p vars is = ap is_literal is
+literal-atom false f p vars is = ap is_literal is
+
 -- what the other variable stands for
 pub other-within : (size : ℕ) (places : List (Option ℕ)) (flag : Bool) (f g : Form) (v x : ℕ) → AreAssigned size places (FExists v f)
     → f ≡ signed flag g → x ≢ v → IsFree x g → assignment_of places x < size
@@ -64,7 +70,45 @@ pub same-within : (v size : ℕ) (places : List (Option ℕ)) (flag : Bool) (f :
 same-within v size places flag f x assigned (inl e) apart = other-within size places flag f (FSame v x) v x assigned e apart (inr refl)
 same-within v size places flag f x assigned (inr e) apart = other-within size places flag f (FSame x v) v x assigned e apart (inl refl)
 
+-- an individual put for the variable
+pub with-assigned : (size : ℕ) (old new : List (Option ℕ)) (v u : ℕ) (f : Form) → u < size
+    → ((w : ℕ) → individual_for new w ≡ (if w == v then Some u else individual_for old w))
+    → AreAssigned size old (FExists v f) → AreAssigned size new f
+with-assigned size old new v u f small is at w free = case (cases_eq w v)
+  where
+    case : (w ≡ v) ⊎ (w ≢ v) → IsAssigned size new w
+    case (inl e) = subst (λ o. IsSomeAnd o (λ x. x < size)) (sym (is w ∙ cond-true (w == v) (Some u) (individual_for old w) (eq-eqb w v e))) small
+    case (inr ne) = subst (λ o. IsSomeAnd o (λ x. x < size)) (sym (is w ∙ cond-false (w == v) (Some u) (individual_for old w) (ne_eqb w v ne)))
+        (at w (ne, free))
+
 module _ (s : StructureForm) (a : Assignment) (v chunk : ℕ) where
+  -- the individuals so far have the formula's values
+  abbrev pub ReadUpTo : Form → (word values : List K3) → ℕ → Type 0
+  ReadUpTo f word values from =
+      (x : ℕ) → x < from → 64 * chunk + x < s.size → get_or word x No ≢ No
+      → get_or values x No ≡ value (structure_of s) (put a v (64 * chunk + x)) f
+
+  -- one more
+  pub read-more : (f : Form) (word values : List K3) (from i : ℕ) (k : K3) → ReadUpTo f word values from → length values ≡ 64
+      → i < 64 → ((x : ℕ) → from ≤ x → x < i → get_or word x No ≡ No)
+      → (64 * chunk + i < s.size → k ≡ value (structure_of s) (put a v (64 * chunk + i)) f)
+      → ReadUpTo f word (slice_set values i k) (i + 1)
+  read-more f word values from i k so_far long low between here x less within some = case (cases_eq x i)
+    where
+      old : x ≢ i → (x < from) ⊎ (from ≤ x) → get_or values x No ≡ value (structure_of s) (put a v (64 * chunk + x)) f
+      old ne (inl before) = so_far x before within some
+      old ne (inr after) = absurd (some (between x after (omega (arith, less, ne))))
+
+      case : (x ≡ i) ⊎ (x ≢ i) → get_or (slice_set values i k) x No ≡ value (structure_of s) (put a v (64 * chunk + x)) f
+      case (inl e) =
+          ap (λ y. get_or (slice_set values i k) y No) e ∙ get_or-set_same values i k No (omega (arith, low, long))
+          ∙ here (subst (λ y. 64 * chunk + y < s.size) e within) ∙ ap (λ y. value (structure_of s) (put a v (64 * chunk + y)) f) (sym e)
+      case (inr ne) = get_or-set_other values i x k No ne ∙ old ne (cases_lt x from)
+
+  -- what has the values of all individuals has those of some
+  pub read-of : (f : Form) (word values : List K3) → IsWordAlong s a v chunk f values → IsReadOf s a v chunk f word values
+  read-of f word values along = record { long = along.long; each = λ i low within some. along.each i low within }
+
   pub signed-along : (flag : Bool) (f g : Form) (base word : List K3) → f ≡ signed flag g → IsWordAlong s a v chunk g base
       → ((h : ℕ → K3) → IsWordOf s.size chunk h base → IsWordOf s.size chunk (λ u. signed_value flag (h u)) word)
       → IsWordAlong s a v chunk f word

@@ -47,13 +47,12 @@ use Rattle.tv_coerce.specs.Counting.{IsWalkStart, Lacks}
 use Rattle.tv_coerce.specs.Counting.{counted}
 use Rattle.tv_coerce.specs.Counting.{members_in, variables_in}
 use Rattle.std.specs.Borrow.{Bor}
-use Rattle.std.specs.Global.{Vec}
 use Rattle.tv_coerce.specs.declared.noted.Ask.{Ask}
 use Rattle.tv_coerce.specs.declared.noted.Noted.{Noted}
 use Rattle.tv_coerce.specs.Ready.{CanCoerce}
 use Rattle.tv_coerce.specs.Trying.{AreNoted, ArePlaced, CanTry, DifferOnlyAt, GoesOn, IsAdded, IsForcedBy}
 use Rattle.tv_coerce.specs.Trying.{IsForced}
-use Rattle.tv_coerce.specs.Trying.{IsFound, IsHopeless, IsNeed, IsNotedOf, IsTold, IsTrial}
+use Rattle.tv_coerce.specs.Trying.{IsHopeless, IsNeed, IsNotedOf, IsTold, IsTrial, IsTrialResult}
 use Rattle.tv_coerce.specs.Trying.{StaysBound, rule_at, trial_rule}
 use Rattle.tv_coerce.specs.Walks.{AreMet, AreTriedFor, GoesOnIn, IsAny, IsBetween, IsInChunk, IsTriedFor}
 use Rattle.tv_coerce.specs.declared.trial.Outcome.{Outcome}
@@ -850,16 +849,16 @@ can-try closed n s scratch within ready =
     in record { over = ready.over n none within; plain = ready.plain n none within; fits = ready.fits n none within }
 
 -- what was noted is what was found
-pub found-told : (trial : Trial) (old new : Noted) (asks : Vec Ask) → old.list.items ≡ [] → asks ≡ new.list
-    → IsTold trial (AreTriedFor trial IsAny) old new Possible
-    → IsFound trial.closed.now trial.number trial.structure.now asks.items
-found-told trial old new asks none same told =
-    let list : asks.items ≡ new.list.items = ap (λ v. v.items) same
-    in let Of : List Ask → Type 0 = All (IsForcedBy trial.closed.now trial.number trial.structure.now)
+pub found-told : (trial : Trial) (old new : Noted) (outcome : Outcome) → old.list.items ≡ []
+    → IsTold trial (AreTriedFor trial IsAny) old new outcome
+    → IsTrialResult trial.closed.now trial.number trial.structure.now new.list.items outcome
+found-told trial old new Possible none told =
+    let Of : List Ask → Type 0 = All (IsForcedBy trial.closed.now trial.number trial.structure.now)
     in record {
-      forced = subst Of (sym list) (told.forced (subst Of (sym none) (All-nil (IsForcedBy trial.closed.now trial.number trial.structure.now))));
-      stable = λ nothing n kin b individuals body. told.tells (sym list ∙ nothing) n kin b tt individuals body;
+      forced = told.forced (subst Of (sym none) (All-nil (IsForcedBy trial.closed.now trial.number trial.structure.now)));
+      stable = λ nothing n kin b individuals body. told.tells nothing n kin b tt individuals body;
     }
+found-told trial old new Impossible none told = told.tells
 
 pub can-try-kin : (trial : Trial) (scratch : ScratchForm) (n : ℕ) → IsKin trial.closed.now trial.number n
     → CanCoerce (rules_of trial.closed.now) trial.structure.now scratch

@@ -7,7 +7,7 @@ use Rattle.std.specs.Prelude.{◌-◌, Contains, length, Option, Some, slice_get
 use Rattle.tv_kleene.specs.declared.K3.{K3}
 use Rattle.tv_kleene.specs.declared.K3.TheVariants.{No, Half, Yes}
 use Rattle.tv_kleene.specs.Kleene.{IsAtMost, negation_of}
-use Rattle.tv_model.specs.Form.{FExists}
+use Rattle.tv_model.specs.Form.{Form, FExists}
 use Rattle.tv_model.specs.Truth.{Assignment, put}
 use Rattle.tv_model.specs.Valid.{IsFormulaOver}
 use Rattle.tv_coerce_members.specs.Members.{MemberForm, IsReadAs, is_literal, members_of, numbers_of}
@@ -137,6 +137,14 @@ pub record CanTest (trial : Trial) (room : ScratchForm) (places : List (Option �
   pub formula : IsFormulaOver (arities_of trial.structure.now) member.form
   pub assigned : AreAssigned trial.structure.now.size places member.form
   pub fits : HasScratchFor room member.form trial.structure.now.size
+
+-- of the individuals from 64 * chunk on, put for v, those that the word doesn't rule out have the formula's
+-- values
+pub record IsReadOf (s : StructureForm) (a : Assignment) (v chunk : ℕ) (f : Form) (word values : List K3)
+    : Type 0 where
+  pub long : length values ≡ 64
+  pub each : (i : ℕ) → i < 64 → 64 * chunk + i < s.size → slice_index_or word i No ≢ No
+      → slice_index_or values i No ≡ value (structure_of s) (put a v (64 * chunk + i)) f
 
 -- it can be valued for all individuals, put for v, and is read so
 pub record CanRead (trial : Trial) (room : ScratchForm) (v : ℕ) (places : List (Option ℕ)) (step : Step)

@@ -8,6 +8,7 @@ pub mod Opened
 pub mod Ready
 pub mod RuleSets
 pub mod Sharpened
+pub mod Steps
 pub mod Touched
 pub mod Trying
 pub mod Walks

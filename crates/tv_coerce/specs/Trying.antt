@@ -1,6 +1,6 @@
 -- How a rule is tried on a structure: its variables get individuals one after the other.
 use Rattle.std.specs.Prelude.{ℕ, ◌≡◌, ◌<◌, ◌≤◌, ◌⊎◌, true, ◌≢◌, ◌++◌, List, [], ◌∷◌, length, Option}
-use Rattle.std.specs.Prelude.{None, Some, All, Contains, slice_index_or}
+use Rattle.std.specs.Prelude.{All, Contains, slice_index_or}
 use Rattle.tv_model.specs.Form.{FOne}
 use Rattle.tv_model.specs.Program.{HeadForm, HNever, RuleForm}
 use Rattle.tv_model.specs.Rules.{IsFreeInRule}
@@ -21,7 +21,6 @@ use Rattle.tv_coerce.specs.Ready.{IsRuleOver}
 use Rattle.tv_coerce.specs.Touched.{IsChangeOf}
 use Rattle.tv_coerce_members.specs.Members.{IsLaidOut}
 use Rattle.tv_rules.specs.Kin.{IsKin, IsTriedBy, skip_of}
-use Rattle.std.specs.Global.{Vec}
 use Rattle.tv_coerce.specs.declared.noted.Ask.{Ask}
 use Rattle.tv_coerce.specs.declared.noted.Noted.{Noted}
 use Rattle.tv_coerce.specs.declared.change.Change.{Change}
@@ -141,6 +140,6 @@ pub record IsFound (closed : List Rule) (number : ℕ) (s : StructureForm) (asks
   pub stable : asks ≡ [] → (n : ℕ) → IsKin closed number n
       → IsStableUnder (structure_of s) (rule_at closed n)
 
-abbrev pub IsTrialResult : List Rule → ℕ → StructureForm → Option (Vec Ask) → Type 0
-IsTrialResult closed number s None = HasHopeless closed number s
-IsTrialResult closed number s (Some asks) = IsFound closed number s asks.items
+abbrev pub IsTrialResult : List Rule → ℕ → StructureForm → List Ask → Outcome → Type 0
+IsTrialResult closed number s asks Possible = IsFound closed number s asks
+IsTrialResult closed number s asks Impossible = HasHopeless closed number s

@@ -1,6 +1,6 @@
 //! The rules that wait are tried, until one asks for something.
 
-ghost use Rattle.std.specs.Prelude.{◌≡◌, ◌≢◌, [], length, IfOk, MatchBool};
+ghost use Rattle.std.specs.Prelude.{◌≡◌, [], length, IfOk};
 ghost use Rattle.tv_eval.specs.Bound.{IsBound, bound_room, bound_structure};
 ghost use Rattle.tv_rules.specs.EntryForms.{rules_of};
 ghost use Rattle.tv_coerce.specs.Attempts.{IsAttempted};
@@ -9,9 +9,10 @@ ghost use Rattle.tv_coerce.specs.RuleSets.{IsStableBut};
 ghost use Rattle.tv_coerce.specs.Trying.{StaysBound};
 
 use crate::finding::find;
-use crate::noted::Ask;
+use crate::noted::{Ask, Noted};
 use crate::rule_set::RuleSet;
-use std::alloc::{AllocError, Global};
+use crate::trial::Outcome;
+use std::alloc::AllocError;
 use tv_eval::{Assignment, Evaluator, Scratch};
 use tv_rules::Closed;
 use tv_struct::Structure;
@@ -26,39 +27,31 @@ pub(crate) enum Asked {
     Impossible,
 }
 
-fn has_some(asks: &[Ask]) -> bool
-    ensures { MatchBool result (asks.now ≢ []) (asks.now ≡ []) }
-{
-    match asks {
-        [] => false,
-        [_, ..] => true,
-    }
-}
-
 /// Takes rules out of the set and tries them, each with those that came of the same base rule, until one asks
 /// for something. The evaluator keeps what it closes for the rules that follow.
 fn attempt_by<'a>(
-    alloc: Global,
     closed: &'a Closed,
     s: &'a Structure,
     waiting: &mut RuleSet,
     evaluator: &mut Evaluator<'a>,
+    noted: &mut Noted,
 ) -> Result<Option<Asked>, AllocError>
     requires ready { CanCoerce (rules_of closed.now) s.now (bound_room evaluator.old) }
     requires bound { IsBound evaluator.old }
     requires structure { bound_structure evaluator.old ≡ s.now }
     requires count { length waiting.old ≡ length (rules_of closed.now) }
     requires rest { IsStableBut (rules_of closed.now) waiting.old s.now }
+    requires none { noted.old.list.items ≡ [] }
     ensures attempted { IfOk result (IsAttempted (rules_of closed.now) s.now waiting.new) }
     ensures stays { StaysBound s.now evaluator.old evaluator.new }
 {
     let mut a = Assignment::new();
     while let Some(number) = waiting.take(closed) {
-        match find(alloc, closed, number, s, evaluator, &mut a)? {
-            None => return Ok(Some(Asked::Impossible)),
-            Some(asks) => {
-                if has_some(asks.as_slice()) {
-                    return Ok(Some(Asked::Changes(number, asks)));
+        match find(closed, number, s, evaluator, &mut a, noted)? {
+            Outcome::Impossible => return Ok(Some(Asked::Impossible)),
+            Outcome::Possible => {
+                if noted.has_some() {
+                    return Ok(Some(Asked::Changes(number, noted.take_asks())));
                 }
                 waiting.remove_all(closed.kin(number));
             }
@@ -70,20 +63,21 @@ fn attempt_by<'a>(
 /// Takes rules out of the set and tries them, until one asks for changes or can't be met; nothing where the
 /// structure is stable under all.
 pub(crate) fn attempt(
-    alloc: Global,
     closed: &Closed,
     s: &Structure,
     waiting: &mut RuleSet,
     scratch: &mut Scratch,
+    noted: &mut Noted,
 ) -> Result<Option<Asked>, AllocError>
     requires ready { CanCoerce (rules_of closed.now) s.now scratch.old }
     requires count { length waiting.old ≡ length (rules_of closed.now) }
     requires rest { IsStableBut (rules_of closed.now) waiting.old s.now }
+    requires none { noted.old.list.items ≡ [] }
     ensures attempted { IfOk result (IsAttempted (rules_of closed.now) s.now waiting.new) }
     ensures scratch { scratch.new ≡ scratch.old }
 {
     let mut evaluator = Evaluator::new(s, scratch);
-    let asked = attempt_by(alloc, closed, s, waiting, &mut evaluator);
+    let asked = attempt_by(closed, s, waiting, &mut evaluator, noted);
     evaluator.finish(scratch);
     asked
 }

@@ -10,6 +10,7 @@ ghost use Rattle.tv_coerce.specs.Ready.{CanCoerce};
 ghost use Rattle.tv_coerce.specs.RuleSets.{IsStableBut};
 
 use crate::attempt::{Asked, attempt};
+use crate::noted::Noted;
 use crate::rule_set::RuleSet;
 use crate::sharpen::sharpen;
 use std::alloc::{AllocError, Global};
@@ -31,13 +32,15 @@ fn settle(
     ensures settled { IfOk result (IsEnd (rules_of closed.now) t.old t.new) }
     ensures scratch { scratch.new ≡ scratch.old }
 {
-    while let Some(asked) = attempt(alloc, closed, t, waiting, scratch)? {
+    let mut noted = Noted::new(alloc, t.size());
+    while let Some(asked) = attempt(closed, t, waiting, scratch, &mut noted)? {
         match asked {
             Asked::Impossible => return Ok(false),
             Asked::Changes(tried, asks) => {
                 sharpen(t, asks.as_slice());
                 waiting.add_seeing_asks(closed, asks.as_slice());
                 waiting.insert(tried);
+                noted.reuse(asks);
             }
         }
     }

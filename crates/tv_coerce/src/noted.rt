@@ -1,10 +1,11 @@
 //! Changes that were asked for. One that was asked for before may be passed over.
 
-ghost use Rattle.std.specs.Prelude.{◌≡◌, ◌≢◌, [], IsTrue, OnOk};
+ghost use Rattle.std.specs.Prelude.{◌≡◌, ◌≢◌, [], IsTrue, MatchBool, OnOk};
 ghost use Rattle.tv_coerce.specs.Trying.{IsAdded};
 
 use crate::change::Change;
 use std::alloc::{AllocError, Global};
+use std::mem;
 use tv_struct::Tuple;
 
 /// A change, and the number of the rule that asks for it.
@@ -19,8 +20,17 @@ pub(crate) struct Ask {
 struct Seen {
     /// The number of the rule.
     number: usize,
-    places: Vec<bool>,
+    /// The first places, as bits.
+    inside: [u64; WORDS],
+    /// Those behind them, where there are so many.
+    behind: Vec<bool>,
 }
+
+/// So many words hold the first places.
+const WORDS: usize = 4;
+
+/// So many places they hold.
+const INSIDE: usize = 256;
 
 /// Changes that rules which came of one base rule ask for in a structure of `size` individuals. What more
 /// than some of them ask for is passed over.
@@ -62,13 +72,27 @@ fn count_of(change: Change, size: u32) -> usize {
 }
 
 impl Seen {
+    /// No changes, of which there are so many places.
+    fn new(alloc: Global, number: usize, count: usize) -> Result<Seen, AllocError> {
+        Ok(Seen {
+            number,
+            inside: [0; WORDS],
+            behind: vec![in alloc; false; count.saturating_sub(INSIDE)]?,
+        })
+    }
+
     fn has(&self, place: usize) -> bool {
-        place < self.places.len() && self.places[place]
+        if place < INSIDE {
+            return (self.inside[place / 64] >> (place % 64)) & 1 == 1;
+        }
+        place - INSIDE < self.behind.len() && self.behind[place - INSIDE]
     }
 
     fn mark(&mut self, place: usize) {
-        if place < self.places.len() {
-            self.places[place] = true;
+        if place < INSIDE {
+            self.inside[place / 64] |= 1 << (place % 64);
+        } else if place - INSIDE < self.behind.len() {
+            self.behind[place - INSIDE] = true;
         }
     }
 }
@@ -122,11 +146,8 @@ impl Noted {
             if at == MOST {
                 return Ok(false);
             }
-            let places = vec![in self.alloc; false; count_of(ask.change, self.size)]?;
-            self.seen.push(Seen {
-                number: ask.number,
-                places,
-            })?;
+            let count = count_of(ask.change, self.size);
+            self.seen.push(Seen::new(self.alloc, ask.number, count)?)?;
         }
         if at < self.seen.len() && !self.seen[at].has(place) {
             self.seen[at].mark(place);
@@ -156,10 +177,27 @@ impl Noted {
         }
     }
 
-    /// The changes, in the order in which they were noted, each with the rule that asks for it.
-    pub fn into_asks(self) -> Vec<Ask>
-        ensures { result ≡ self.list }
+    /// Whether a change is noted.
+    pub fn has_some(&self) -> bool
+        ensures { MatchBool result (self.now.list.items ≢ []) (self.now.list.items ≡ []) }
     {
-        self.list
+        !self.list.is_empty()
+    }
+
+    /// Takes out the changes, in the order in which they were noted, each with the rule that asks for it.
+    pub fn take_asks(&mut self) -> Vec<Ask>
+        ensures { result ≡ self.old.list }
+    {
+        self.seen.clear();
+        mem::replace(&mut self.list, Vec::new(self.alloc))
+    }
+
+    /// Takes back the memory of changes that were made; none is noted then.
+    pub fn reuse(&mut self, asks: Vec<Ask>)
+        ensures { self.new.list.items ≡ [] }
+    {
+        let mut asks = asks;
+        asks.clear();
+        self.list = asks;
     }
 }

@@ -27,7 +27,7 @@ use crate::counting::{Missing, count, lacking};
 use crate::narrow::{going_on, narrow};
 use crate::need::need;
 use crate::noted::{Ask, Noted};
-use crate::places::{counted, counted_all, opened};
+use crate::places::{begun_with, counted, counted_all, counted_alone, counted_by_row};
 use std::alloc::AllocError;
 use tv_coerce_members::{Level, Shape};
 use tv_eval::{Assignment, Evaluator, chunks, places};
@@ -257,14 +257,15 @@ fn walk_chunk<'a>(
     let level = level_of(trial, rest.len());
     let own = counted_all(trial, evaluator, level.own.as_slice(), v, chunk, a, all);
     let steps = level.last.as_slice();
-    let ways = opened(trial, steps, v, chunk, own, tail);
-    let alive = going_on(trial.later, rest.len(), tail, ways);
+    let alive = going_on(trial.later, rest.len(), tail, own);
+    let halved = counted(tail, Word::of(64, K3::Half));
+    let sure = own.unless_no(own);
     let mut from = 0;
     while let Some(i) = alive.first_possible(from) {
         a.set(v, 64 * chunk + i);
         from = i + 1;
-        let begun = counted(tail, Word::of(64, own.get(i)));
-        let word = counted_all(trial, evaluator, steps, trial.last, trial.chunk, a, begun);
+        let begun = begun_with(tail, halved, own, sure, i);
+        let word = counted_by_row(trial, evaluator, steps, trial.last, trial.chunk, a, begun);
         if !is_no(word.greatest()) {
             match walk(trial, evaluator, rest, word, a, noted)? {
                 Outcome::Possible => {
@@ -312,7 +313,7 @@ fn walk_last<'a>(
     let level = level_of(trial, before.len());
     let all = Word::of(places(trial.structure.size(), trial.chunk), own);
     let steps = level.last.as_slice();
-    let tail = counted_all(trial, evaluator, steps, trial.last, trial.chunk, a, all);
+    let tail = counted_alone(trial, evaluator, steps, trial.last, trial.chunk, a, all);
     if is_no(tail.greatest()) {
         return Ok(Outcome::Possible);
     }
@@ -320,7 +321,7 @@ fn walk_last<'a>(
 }
 
 /// Tries rules without variables.
-fn walk_none<'a>(
+pub(crate) fn walk_none<'a>(
     trial: &Trial<'a, '_>,
     evaluator: &mut Evaluator<'a>,
     a: &Assignment,
@@ -427,12 +428,11 @@ fn walk_narrowed<'a>(
     walk_chunks(&narrowed, evaluator, before, own, a, noted)
 }
 
-/// Tries rules whose variables are those before and `last`.
-fn walk_some<'a>(
+/// Tries rules whose variables are those before and the last.
+pub(crate) fn walk_some<'a>(
     trial: &Trial<'a, '_>,
     evaluator: &mut Evaluator<'a>,
     before: &[Var],
-    last: Var,
     a: &mut Assignment,
     noted: &mut Noted,
 ) -> Result<Outcome, AllocError>
@@ -441,7 +441,7 @@ fn walk_some<'a>(
     requires structure { bound_structure evaluator.old ≡ trial.now.structure.now }
     requires ready { CanCoerce (rules_of trial.now.closed.now) trial.now.structure.now
         (bound_room evaluator.old) }
-    requires variables { variables_in trial.now ≡ numbers_of before.now ++ last.0 ∷ [] }
+    requires variables { variables_in trial.now ≡ numbers_of before.now ++ trial.now.last.0 ∷ [] }
     requires narrowed { AreNarrowed trial.now trial.now.later.now }
     ensures told { IfOk result (IsTold trial.now (AreTriedFor trial.now IsAny) noted.old noted.new) }
     ensures stays { StaysBound trial.now.structure.now evaluator.old evaluator.new }
@@ -451,31 +451,8 @@ fn walk_some<'a>(
     if is_no(own) {
         return Ok(Outcome::Possible);
     }
-    let here = Trial { last, ..*trial };
     if is_narrowed(before.len(), trial.structure.size()) {
-        return walk_narrowed(&here, evaluator, before, own, a, noted);
+        return walk_narrowed(trial, evaluator, before, own, a, noted);
     }
-    walk_chunks(&here, evaluator, before, own, a, noted)
-}
-
-/// Tries the rules under each assignment of their variables. What these stand for is changed on the way.
-pub(crate) fn walk_all<'a>(
-    trial: &Trial<'a, '_>,
-    evaluator: &mut Evaluator<'a>,
-    a: &mut Assignment,
-    noted: &mut Noted,
-) -> Result<Outcome, AllocError>
-    requires trial { IsTrial trial.now }
-    requires bound { IsBound evaluator.old }
-    requires structure { bound_structure evaluator.old ≡ trial.now.structure.now }
-    requires ready { CanCoerce (rules_of trial.now.closed.now) trial.now.structure.now
-        (bound_room evaluator.old) }
-    requires narrowed { AreNarrowed trial.now trial.now.later.now }
-    ensures told { IfOk result (IsTold trial.now (AreTriedFor trial.now IsAny) noted.old noted.new) }
-    ensures stays { StaysBound trial.now.structure.now evaluator.old evaluator.new }
-{
-    match trial.shape.variables.as_slice() {
-        [] => walk_none(trial, evaluator, a, noted),
-        [before @ .., last] => walk_some(trial, evaluator, before, *last, a, noted),
-    }
+    walk_chunks(trial, evaluator, before, own, a, noted)
 }

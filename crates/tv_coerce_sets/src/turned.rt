@@ -9,7 +9,6 @@ ghost use Rattle.tv_struct.specs.StructureForm.{arities_of, value_at};
 ghost use Rattle.tv_struct.specs.StructureRows.{HasArity};
 ghost use Rattle.tv_coerce_sets.specs.Turned.{HasTurned, Tells};
 
-use std::cmp::Ordering;
 use tv_eval::places;
 use tv_kleene::K3;
 use tv_model::PredId;
@@ -68,7 +67,7 @@ impl Turned {
 fn are_equal(word: Word, other: Word) -> bool
     ensures { IsTrue result → word ≡ other }
 {
-    matches!(word.compare(other), Ordering::Equal)
+    word == other
 }
 
 fn is_yes(k: K3) -> bool
@@ -109,15 +108,27 @@ fn turned_word(n: u32, before: Word, now: Word) -> Turned
     requires now { length now ≡ 64 }
     ensures { (i : ℕ) → i < n → Tells result (slice_index_or before i No) (slice_index_or now i No) }
 {
-    if are_equal(before, now) {
-        return Turned::nothing();
-    }
     Turned {
         to_yes: has_new_yes(n, before, now),
         to_no: has_new_no(n, before, now),
         from_yes: has_new_yes(n, now, before),
         from_no: has_new_no(n, now, before),
     }
+}
+
+/// The same beside what became of others: most words have the values that they had.
+#[inline(always)]
+fn with_word(turned: Turned, n: u32, before: Word, now: Word) -> Turned
+    requires few { n ≤ 64 }
+    requires before { length before ≡ 64 }
+    requires now { length now ≡ 64 }
+    ensures here { (i : ℕ) → i < n → Tells result (slice_index_or before i No) (slice_index_or now i No) }
+    ensures there { (x y : K3) → Tells turned x y → Tells result x y }
+{
+    if are_equal(before, now) {
+        return turned;
+    }
+    turned.or(turned_word(n, before, now))
 }
 
 /// What a value became.
@@ -144,28 +155,28 @@ fn turned_row(s: &Structure, t: &Structure, p: PredId) -> Turned
     let mut turned = Turned::nothing();
     for chunk in 0..s.size().div_ceil(64) {
         let n = places(s.size(), chunk);
-        let here = turned_word(n, s.unary_word(p, chunk), t.unary_word(p, chunk));
-        turned = turned.or(here);
+        turned = with_word(turned, n, s.unary_word(p, chunk), t.unary_word(p, chunk));
     }
     turned
 }
 
-/// What the values of the binary predicate became at the pairs with first member `u`.
+/// What the values of the binary predicate became at the pairs with first member `u`, beside what became of
+/// others.
 #[inline(always)]
-fn turned_at(s: &Structure, t: &Structure, p: PredId, u: u32) -> Turned
+fn turned_at(s: &Structure, t: &Structure, p: PredId, u: u32, others: Turned) -> Turned
     requires size { s.now.size ≡ t.now.size }
     requires over { arities_of s.now ≡ arities_of t.now }
     requires one { HasArity s.now p.0 2 }
     requires other { HasArity t.now p.0 2 }
     requires individual { u < s.now.size }
-    ensures { (w : ℕ) → w < s.now.size
+    ensures here { (w : ℕ) → w < s.now.size
         → Tells result (value_at s.now p.0 (u ∷ w ∷ [])) (value_at t.now p.0 (u ∷ w ∷ [])) }
+    ensures there { (x y : K3) → Tells others x y → Tells result x y }
 {
-    let mut turned = Turned::nothing();
+    let mut turned = others;
     for chunk in 0..s.size().div_ceil(64) {
         let n = places(s.size(), chunk);
-        let here = turned_word(n, s.word(p, u, chunk), t.word(p, u, chunk));
-        turned = turned.or(here);
+        turned = with_word(turned, n, s.word(p, u, chunk), t.word(p, u, chunk));
     }
     turned
 }
@@ -180,7 +191,7 @@ fn turned_rows(s: &Structure, t: &Structure, p: PredId) -> Turned
 {
     let mut turned = Turned::nothing();
     for u in 0..s.size() {
-        turned = turned.or(turned_at(s, t, p, u));
+        turned = turned_at(s, t, p, u, turned);
     }
     turned
 }

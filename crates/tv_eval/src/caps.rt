@@ -1,9 +1,10 @@
 //! Which individuals can't make a formula true (or false), whatever some of its variables stand for.
 
-ghost use Rattle.std.specs.Prelude.{◌<◌, ◌*◌};
-ghost use Rattle.tv_model.specs.Form.{form_of};
+ghost use Rattle.std.specs.Prelude.{ℕ, ◌<◌, ◌*◌};
+ghost use Rattle.tv_model.specs.Form.{form_of, IsFree};
 ghost use Rattle.tv_model.specs.Valid.{IsFormulaOver};
 ghost use Rattle.tv_struct.specs.StructureForm.{arities_of};
+ghost use Rattle.tv_quantifiers.specs.Sets.{IsOutside};
 ghost use Rattle.tv_eval.specs.AssignmentForm.{assignment_of};
 ghost use Rattle.tv_eval.specs.Caps.{AreSeen, IsCapRow, IsCapWord, IsRuledOut};
 
@@ -79,12 +80,35 @@ fn leaf_cap(
     ensures { IsCapWord s.now.size chunk
         (IsRuledOut s.now (assignment_of a.now) hidden.now w.0 q (form_of f.now)) result }
 {
-    if is_literal_without(f, hidden) {
-        if let Some(word) = literal_word(f, w, chunk, s, a) {
-            return q.turned_word(word, places(s.size(), chunk));
-        }
+    if !is_literal_without(f, hidden) {
+        return Word::of(64, K3::Yes);
     }
-    Word::of(64, K3::Yes)
+    literal_cap(q, f, hidden, w, chunk, s, a)
+}
+
+/// The same for a formula without a hidden variable.
+#[inline(never)]
+fn literal_cap(
+    q: Quantifier,
+    f: &Formula,
+    hidden: &Variables,
+    w: Var,
+    chunk: u32,
+    s: &Structure,
+    a: &Assignment,
+) -> Word
+    requires formula { IsFormulaOver (arities_of s.now) (form_of f.now) }
+    requires variable { w.0 < 32 }
+    requires seen { AreSeen s.now.size a.now hidden.now w.0 (form_of f.now) }
+    requires without { (v : ℕ) → IsFree v (form_of f.now) → IsOutside hidden.now v }
+    requires chunk { 64 * chunk < s.now.size }
+    ensures { IsCapWord s.now.size chunk
+        (IsRuledOut s.now (assignment_of a.now) hidden.now w.0 q (form_of f.now)) result }
+{
+    match literal_word(f, w, chunk, s, a) {
+        None => Word::of(64, K3::Yes),
+        Some(word) => q.turned_word(word, places(s.size(), chunk)),
+    }
 }
 
 /// The same for all individuals.

@@ -14,7 +14,6 @@ ghost use Rattle.tv_eval.specs.Sound.{CoversValues};
 
 use crate::Assignment;
 use crate::kept::Kept;
-use crate::leaf_words::literal_word;
 use crate::scratch::Scratch;
 use crate::values::{row_of, value_of, word_of};
 use tv_kleene::K3;
@@ -129,10 +128,6 @@ impl<'a> Evaluator<'a> {
         ensures structure { bound_structure self.new ≡ bound_structure self.old }
         ensures room { bound_room self.new ≡ bound_room self.old }
     {
-        // Literals, which are most of what is asked, don't go through the cycle.
-        if let Some(word) = literal_word(f, v, chunk, self.structure, a) {
-            return word;
-        }
         word_of(
             f,
             v,

@@ -2,10 +2,10 @@
 //! are values of quantified formulas that took long.
 
 ghost use Rattle.std.specs.Prelude.{ℕ, ◌≡◌, ◌≢◌, ◌<◌, ◌+◌, ◌↔◌, ◌⊎◌, List, [], length, IsTrue, IfSome};
-ghost use Rattle.std.specs.Prelude.{IfNone};
+ghost use Rattle.std.specs.Prelude.{◌∷◌, IfNone};
 ghost use Rattle.std.specs.Prelude.{Some, min, slice_index_or, slice_set, unwrap_or};
 ghost use Rattle.tv_kleene.specs.declared.K3.{K3};
-ghost use Rattle.tv_model.specs.Form.{form_of, IsFree};
+ghost use Rattle.tv_model.specs.Form.{form_of, FAtom, IsFree};
 ghost use Rattle.tv_model.specs.Truth.{Assignment};
 ghost use Rattle.tv_eval_laws.specs.Value.{value};
 ghost use Rattle.tv_eval.specs.AssignmentForm.{assignment_of};
@@ -16,7 +16,7 @@ ghost use Rattle.tv_eval.specs.Keeps.{HoldsClosures, StandsAt, HasOnlyOwn, HasPl
 
 use std::mem;
 use tv_kleene::K3;
-use tv_model::{Formula, Terms, Var};
+use tv_model::{Formula, PredId, Terms, Var};
 use tv_quantifiers::{Edges, Parts, Relation, are_same, has_outer, lone};
 
 /// How many closures are kept, at most.
@@ -77,7 +77,7 @@ impl<'f> Kept<'f> {
         self.parts.value(f, v, a.at(v))
     }
 
-    /// Counts an evaluation of a quantified formula.
+    /// Counts a quantified formula that is asked for.
     #[inline(always)]
     pub fn turn(&mut self) -> usize
         ensures { (s : StructureForm) (rooms : List (List (List K3))) → HoldsClosures s self.old rooms
@@ -86,7 +86,7 @@ impl<'f> Kept<'f> {
         self.parts.turn()
     }
 
-    /// Keeps the value of the formula under the assignment, where many quantified formulas were evaluated
+    /// Keeps the value of the formula under the assignment, where many quantified formulas were asked for
     /// since then and at most one variable is free in it.
     #[inline(always)]
     pub fn offer_value(&mut self, f: &'f Formula, since: usize, a: &crate::Assignment, k: K3)
@@ -179,6 +179,23 @@ fn is_own_atom(edges: Edges<'_>) -> bool
     match edges.body {
         Formula::Atom(_, Terms::Two(x, y)) => is_own(edges, *x) && is_own(edges, *y),
         _ => false,
+    }
+}
+
+/// The predicate whose rows the edges are, if they are those of an atom.
+pub fn row_atom(edges: Edges<'_>) -> Option<PredId>
+    ensures { IfSome result (λ pred. (form_of edges.entry.body.now
+        ≡ FAtom pred.0 (edges.entry.left.0 ∷ edges.entry.right.0 ∷ []))
+        × (edges.entry.left.0 ≢ edges.entry.right.0)) }
+{
+    match edges.body {
+        Formula::Atom(pred, Terms::Two(x, y)) => {
+            if x.0 != edges.left.0 || y.0 != edges.right.0 || x.0 == y.0 {
+                return None;
+            }
+            Some(*pred)
+        }
+        _ => None,
     }
 }
 

@@ -1,11 +1,14 @@
 //! The values of a formula without parts for 64 of the individuals that one variable may stand for.
 
 ghost use Rattle.std.specs.Prelude.{◌≡◌, ◌≤◌, ◌<◌, ◌*◌, ◌-◌, ℕ, [], ◌∷◌, min, ◌==◌, if◌then◌else◌, IfSome};
+ghost use Rattle.std.specs.Prelude.{length};
 ghost use Rattle.tv_kleene.specs.declared.K3.TheVariants.{No};
 ghost use Rattle.tv_model.specs.Form.{form_of, vars_of, FAtom, FExists, FIsNew, FNot, FSame};
 ghost use Rattle.tv_model.specs.Valid.{IsFormulaOver};
 ghost use Rattle.tv_struct.specs.StructureForm.{arities_of, structure_of, value_at};
 ghost use Rattle.tv_struct.specs.StructureRows.{HasArity};
+ghost use Rattle.tv_row.specs.Places.{entry_in};
+ghost use Rattle.tv_quantifiers.specs.Rows.{IsSquare};
 ghost use Rattle.tv_eval_laws.specs.Value.{mark_value, same_value};
 ghost use Rattle.tv_eval.specs.Along.{IsWordAlong, IsWordOf};
 ghost use Rattle.tv_eval.specs.AssignmentForm.{assignment_of};
@@ -16,6 +19,7 @@ use crate::Assignment;
 use crate::leaves::{atom, is_new, same};
 use tv_kleene::K3;
 use tv_model::{Formula, PredId, Terms, Var};
+use tv_quantifiers::Relation;
 use tv_row::Word;
 use tv_struct::{Structure, Tuple};
 
@@ -43,6 +47,23 @@ pub fn constant_word(k: K3) -> Word
     ensures { (n chunk : ℕ) → IsWordOf n chunk (λ _. k) result }
 {
     Word::of(64, k)
+}
+
+/// Whether the formula is a literal: a hint, of which nothing is promised.
+#[inline(always)]
+pub fn is_literal(f: &Formula) -> bool {
+    match f {
+        Formula::Not(g) => is_leaf(g),
+        _ => is_leaf(f),
+    }
+}
+
+#[inline(always)]
+fn is_leaf(f: &Formula) -> bool {
+    matches!(
+        f,
+        Formula::Atom(_, _) | Formula::IsNew(_) | Formula::Same(_, _)
+    )
 }
 
 /// The values of a literal: an atom, an equality or a mark, or the negation of one; none for other formulas.
@@ -121,7 +142,7 @@ fn two_word(pred: PredId, x: Var, y: Var, v: Var, chunk: u32, s: &Structure, a: 
         if y.0 == v.0 {
             return diagonal(pred, chunk, s);
         }
-        return s.column_word(pred, a.at(y), chunk);
+        return column(pred, a.at(y), chunk, s);
     }
     if y.0 == v.0 {
         return s.word(pred, a.at(x), chunk);
@@ -129,7 +150,19 @@ fn two_word(pred: PredId, x: Var, y: Var, v: Var, chunk: u32, s: &Structure, a: 
     constant_word(s.get(pred, Tuple::Two(a.at(x), a.at(y))))
 }
 
+/// The binary predicate's values at the pairs with this second individual.
+#[inline(never)]
+fn column(pred: PredId, w: u32, chunk: u32, s: &Structure) -> Word
+    requires arity { HasArity s.now pred.0 2 }
+    requires individual { w < s.now.size }
+    requires chunk { 64 * chunk < s.now.size }
+    ensures { IsWordOf s.now.size chunk (λ u. value_at s.now pred.0 (u ∷ w ∷ [])) result }
+{
+    s.column_word(pred, w, chunk)
+}
+
 /// The binary predicate's values at the pairs of an individual with itself.
+#[inline(never)]
 fn diagonal(pred: PredId, chunk: u32, s: &Structure) -> Word
     requires arity { HasArity s.now pred.0 2 }
     requires chunk { 64 * chunk < s.now.size }
@@ -201,4 +234,18 @@ pub fn same_as(u: u32, chunk: u32, s: &Structure) -> Word
     ensures { IsWordOf s.now.size chunk (λ w. same_value (structure_of s.now) w u) result }
 {
     alone_at(u, same(s, u, u), chunk)
+}
+
+/// Puts the rows of the binary predicate into the relation.
+pub fn put_rows(pred: PredId, s: &Structure, relation: &mut Relation)
+    requires arity { HasArity s.now pred.0 2 }
+    requires size { s.now.size ≤ length relation.old }
+    ensures edges { (u w : ℕ) → u < s.now.size → w < s.now.size
+        → entry_in relation.new u w ≡ value_at s.now pred.0 (u ∷ w ∷ []) }
+    ensures square { IsSquare s.now.size relation.new }
+    ensures size { length relation.new ≡ length relation.old }
+{
+    for u in 0..s.size() {
+        relation.put_row(u, &s.row(pred, u));
+    }
 }

@@ -19,22 +19,22 @@ ghost use Rattle.tv_eval.specs.CanEvaluate.{CanEvaluate};
 ghost use Rattle.tv_eval.specs.Formulas.{HasRooms, nesting, sizes_of};
 ghost use Rattle.tv_eval.specs.Keeps.{HoldsClosures};
 ghost use Rattle.tv_quantifiers.specs.Quantified.{quantified, turned};
-ghost use Rattle.tv_eval.specs.Caps.{IsCapWord};
+ghost use Rattle.tv_eval.specs.Caps.{IsCapRow, IsCapWord};
 ghost use Rattle.tv_kleene.specs.declared.K3.TheVariants.{No};
 ghost use Rattle.tv_quantifiers.specs.Rows.{IsPart, IsSquare, part_at};
 
 use crate::Assignment;
 use crate::caps::{cap_row, cap_word};
-use crate::kept::Kept;
+use crate::kept::{Kept, row_atom};
 use crate::leaf_words::{
-    atom_word, chunks, constant_word, literal_word, new_word, places, same_word,
+    atom_word, chunks, constant_word, is_literal, new_word, places, put_rows, same_word,
 };
 use crate::leaves::{atom, is_new, same};
 use tv_kleene::K3;
 use tv_model::{Formula, Var, free};
 use tv_quantifiers::{
-    Edges, Level, Link, Part, Quantifier, Relation, Shape, Variables, advance, are_linked,
-    begins_long_run, has_few, has_outer, is_slower, opened, sign_of, split,
+    Edges, Level, Link, Part, Quantifier, Relation, Shape, Variables, advance, are_few, are_linked,
+    begins_long_run, begins_with, has_few, has_outer, is_slower, opened, sign_of, split,
 };
 use tv_row::{Row, Word};
 use tv_struct::Structure;
@@ -43,6 +43,30 @@ use tv_struct::Structure;
 /// stands in no other, the next for one inside it, and so on.
 #[cycle(values)]
 pub fn value_of<'f>(
+    f: &'f Formula,
+    s: &Structure,
+    a: &Assignment,
+    rooms: &mut [Relation],
+    kept: &mut Kept<'f>,
+    shared: &mut [Relation],
+) -> K3
+    requires parts { CanEvaluate s.now a.now (sizes_of rooms.old) (form_of f.now) }
+    requires kept { HoldsClosures s.now kept.old shared.old }
+    ensures exact { result ≡ value (structure_of s.now) (assignment_of a.now) (form_of f.now) }
+    ensures rooms { sizes_of rooms.new ≡ sizes_of rooms.old }
+    ensures kept { HoldsClosures s.now kept.new shared.new }
+{
+    match f {
+        Formula::Atom(pred, terms) => atom(*pred, terms, s, a),
+        Formula::Not(g) => value_of(g, s, a, rooms, kept, shared).not(),
+        _ => value_by_parts(f, s, a, rooms, kept, shared),
+    }
+}
+
+/// The same, part by part: atoms, and what is negated, don't come here.
+#[cycle(values)]
+#[inline(never)]
+fn value_by_parts<'f>(
     f: &'f Formula,
     s: &Structure,
     a: &Assignment,
@@ -211,10 +235,10 @@ fn quantify<'f>(
     ensures rooms { sizes_of rooms.new ≡ sizes_of rooms.old }
     ensures kept { HoldsClosures s.now kept.new shared.new }
 {
+    let since = kept.turn();
     if let Some(k) = kept.value(f, a) {
         return k;
     }
-    let since = kept.turn();
     let k = quantify_anew(q, v, body, s, a, rooms, kept, shared);
     kept.offer_value(f, since, a, k);
     k
@@ -242,6 +266,9 @@ fn quantify_anew<'f>(
     if s.size() > 0 && begins_long_run(body) {
         return run(q, v, body, s, a, rooms, kept, shared);
     }
+    if s.size() > 0 && s.size() <= 64 {
+        return quantify_few(q, v, body, s, a, rooms, kept, shared);
+    }
     let mut found = K3::No;
     for chunk in 0..chunks(s.size()) {
         let word = word_of(body, v, chunk, s, a, rooms, kept, shared);
@@ -252,6 +279,32 @@ fn quantify_anew<'f>(
         }
     }
     q.turned(found)
+}
+
+/// The same over individuals that one word has values for.
+#[cycle(values)]
+fn quantify_few<'f>(
+    q: Quantifier,
+    v: Var,
+    body: &'f Formula,
+    s: &Structure,
+    a: &Assignment,
+    rooms: &mut [Relation],
+    kept: &mut Kept<'f>,
+    shared: &mut [Relation],
+) -> K3
+    requires parts { CanEvaluate s.now a.now (sizes_of rooms.old) (FExists v.0 (form_of body.now)) }
+    requires some { 0 < s.now.size }
+    requires few { s.now.size ≤ 64 }
+    requires kept { HoldsClosures s.now kept.old shared.old }
+    ensures exact { result
+        ≡ value (structure_of s.now) (assignment_of a.now) (quantified q v.0 (form_of body.now)) }
+    ensures rooms { sizes_of rooms.new ≡ sizes_of rooms.old }
+    ensures kept { HoldsClosures s.now kept.new shared.new }
+{
+    let word = word_of(body, v, 0, s, a, rooms, kept, shared);
+    let turned = q.turned_word(word, places(s.size(), 0));
+    q.turned(turned.greatest())
 }
 
 /// The same, where many quantifiers stand one in the other: without recursion.
@@ -578,6 +631,10 @@ fn fill<'f>(
     ensures rooms { sizes_of rooms.new ≡ sizes_of rooms.old }
     ensures kept { HoldsClosures s.now kept.new shared.new }
 {
+    if let Some(pred) = row_atom(edges) {
+        put_rows(pred, s, relation);
+        return;
+    }
     let mut here = *a;
     for u in 0..s.size() {
         here.set(edges.left, u);
@@ -603,6 +660,9 @@ pub fn row_of<'f>(
     ensures rooms { sizes_of rooms.new ≡ sizes_of rooms.old }
     ensures kept { HoldsClosures s.now kept.new shared.new }
 {
+    if s.size() > 0 && s.size() <= 64 {
+        return row_of_few(f, v, s, a, rooms, kept, shared);
+    }
     let mut values = Row::of(s.size(), K3::No);
     for chunk in 0..chunks(s.size()) {
         let word = word_of(f, v, chunk, s, a, rooms, kept, shared);
@@ -611,10 +671,64 @@ pub fn row_of<'f>(
     values
 }
 
+/// The same for individuals that one word has values for.
+#[cycle(values)]
+fn row_of_few<'f>(
+    f: &'f Formula,
+    v: Var,
+    s: &Structure,
+    a: &Assignment,
+    rooms: &mut [Relation],
+    kept: &mut Kept<'f>,
+    shared: &mut [Relation],
+) -> Row
+    requires parts { CanEvaluate s.now a.now (sizes_of rooms.old) (FExists v.0 (form_of f.now)) }
+    requires some { 0 < s.now.size }
+    requires few { s.now.size ≤ 64 }
+    requires kept { HoldsClosures s.now kept.old shared.old }
+    ensures exact { result ≡ values_along s.now (assignment_of a.now) v.0 (form_of f.now) }
+    ensures rooms { sizes_of rooms.new ≡ sizes_of rooms.old }
+    ensures kept { HoldsClosures s.now kept.new shared.new }
+{
+    let word = word_of(f, v, 0, s, a, rooms, kept, shared);
+    let mut values = Row::of(s.size(), K3::No);
+    values.put_word(0, word);
+    values
+}
+
 /// The values of the formula for the individuals from `64 * chunk` on, put for `v`: 64, or as many as there
 /// are. What stands behind the last isn't told.
 #[cycle(values)]
+#[inline(always)]
 pub fn word_of<'f>(
+    f: &'f Formula,
+    v: Var,
+    chunk: u32,
+    s: &Structure,
+    a: &Assignment,
+    rooms: &mut [Relation],
+    kept: &mut Kept<'f>,
+    shared: &mut [Relation],
+) -> Word
+    requires parts { CanEvaluate s.now a.now (sizes_of rooms.old) (FExists v.0 (form_of f.now)) }
+    requires chunk { 64 * chunk < s.now.size }
+    requires kept { HoldsClosures s.now kept.old shared.old }
+    ensures exact { IsWordAlong s.now (assignment_of a.now) v.0 chunk (form_of f.now) result }
+    ensures rooms { sizes_of rooms.new ≡ sizes_of rooms.old }
+    ensures kept { HoldsClosures s.now kept.new shared.new }
+{
+    match f {
+        Formula::Atom(pred, terms) => atom_word(*pred, terms, v, chunk, s, a),
+        Formula::Same(x, y) => same_word(*x, *y, v, chunk, s, a),
+        Formula::Not(g) => words_negated(g, v, chunk, s, a, rooms, kept, shared),
+        _ => word_by_parts(f, v, chunk, s, a, rooms, kept, shared),
+    }
+}
+
+/// The same, part by part: literals, which are most of what is asked, don't come here.
+#[cycle(values)]
+#[inline(never)]
+fn word_by_parts<'f>(
     f: &'f Formula,
     v: Var,
     chunk: u32,
@@ -637,10 +751,7 @@ pub fn word_of<'f>(
         Formula::Atom(pred, terms) => atom_word(*pred, terms, v, chunk, s, a),
         Formula::IsNew(w) => new_word(*w, v, chunk, s, a),
         Formula::Same(x, y) => same_word(*x, *y, v, chunk, s, a),
-        Formula::Not(g) => word_of(g, v, chunk, s, a, rooms, kept, shared).not(places(
-            s.size(),
-            chunk,
-        )),
+        Formula::Not(g) => words_negated(g, v, chunk, s, a, rooms, kept, shared),
         Formula::And(g, h) => words_both(g, h, v, chunk, s, a, rooms, kept, shared),
         Formula::Or(g, h) => words_either(g, h, v, chunk, s, a, rooms, kept, shared),
         Formula::Iff(g, h) => words_alike(g, h, v, chunk, s, a, rooms, kept, shared),
@@ -717,6 +828,28 @@ fn by_values<'f>(
 }
 
 #[cycle(values)]
+#[inline(never)]
+fn words_negated<'f>(
+    g: &'f Formula,
+    v: Var,
+    chunk: u32,
+    s: &Structure,
+    a: &Assignment,
+    rooms: &mut [Relation],
+    kept: &mut Kept<'f>,
+    shared: &mut [Relation],
+) -> Word
+    requires parts { CanEvaluate s.now a.now (sizes_of rooms.old) (FExists v.0 (FNot (form_of g.now))) }
+    requires chunk { 64 * chunk < s.now.size }
+    requires kept { HoldsClosures s.now kept.old shared.old }
+    ensures exact { IsWordAlong s.now (assignment_of a.now) v.0 chunk (FNot (form_of g.now)) result }
+    ensures rooms { sizes_of rooms.new ≡ sizes_of rooms.old }
+    ensures kept { HoldsClosures s.now kept.new shared.new }
+{
+    word_of(g, v, chunk, s, a, rooms, kept, shared).not(places(s.size(), chunk))
+}
+
+#[cycle(values)]
 fn words_both<'f>(
     g: &'f Formula,
     h: &'f Formula,
@@ -737,7 +870,8 @@ fn words_both<'f>(
     ensures rooms { sizes_of rooms.new ≡ sizes_of rooms.old }
     ensures kept { HoldsClosures s.now kept.new shared.new }
 {
-    if let Some(second) = literal_word(h, v, chunk, s, a) {
+    if is_literal(h) {
+        let second = word_of(h, v, chunk, s, a, rooms, kept, shared);
         if second.greatest() == K3::No {
             return second;
         }
@@ -771,7 +905,8 @@ fn words_either<'f>(
     ensures rooms { sizes_of rooms.new ≡ sizes_of rooms.old }
     ensures kept { HoldsClosures s.now kept.new shared.new }
 {
-    if let Some(second) = literal_word(h, v, chunk, s, a) {
+    if is_literal(h) {
+        let second = word_of(h, v, chunk, s, a, rooms, kept, shared);
         if second.least(places(s.size(), chunk)) == K3::Yes {
             return second;
         }
@@ -880,6 +1015,12 @@ fn quantified_word<'f>(
         let front = constant_word(K3::Yes);
         return by_values(f, q, front, v, chunk, s, a, rooms, kept, shared);
     }
+    if begins_with(body, w) {
+        let caps = cap_row(q, body, Variables::none().with(v), w, s, a);
+        if are_few(&caps) {
+            return joined_words(q, w, body, &caps, v, chunk, s, a, rooms, kept, shared);
+        }
+    }
     let count = places(s.size(), chunk);
     let front = cap_word(q, body, Variables::none().with(w), v, chunk, s, a).first(count);
     if has_few(front) {
@@ -889,6 +1030,38 @@ fn quantified_word<'f>(
     if is_slower(body, v, w, front, count, &caps) {
         return by_values(f, q, front, v, chunk, s, a, rooms, kept, shared);
     }
+    joined_words(q, w, body, &caps, v, chunk, s, a, rooms, kept, shared)
+}
+
+/// The words of the individuals that the caps don't rule out joined, until all values are known.
+#[cycle(values)]
+#[inline(never)]
+fn joined_words<'f>(
+    q: Quantifier,
+    w: Var,
+    body: &'f Formula,
+    caps: &Row,
+    v: Var,
+    chunk: u32,
+    s: &Structure,
+    a: &Assignment,
+    rooms: &mut [Relation],
+    kept: &mut Kept<'f>,
+    shared: &mut [Relation],
+) -> Word
+    requires parts { CanEvaluate s.now a.now (sizes_of rooms.old)
+        (FExists v.0 (FExists w.0 (form_of body.now))) }
+    requires chunk { 64 * chunk < s.now.size }
+    requires kept { HoldsClosures s.now kept.old shared.old }
+    requires apart { w.0 ≢ v.0 }
+    requires caps { IsCapRow s.now.size (λ x. (u : ℕ) → turned q (value (structure_of s.now)
+        (put (put (assignment_of a.now) v.0 u) w.0 x) (form_of body.now)) ≡ No) caps.now }
+    ensures exact { IsWordAlong s.now (assignment_of a.now) v.0 chunk
+        (quantified q w.0 (form_of body.now)) result }
+    ensures rooms { sizes_of rooms.new ≡ sizes_of rooms.old }
+    ensures kept { HoldsClosures s.now kept.new shared.new }
+{
+    let count = places(s.size(), chunk);
     let mut found = Word::of(64, K3::No);
     let mut here = *a;
     let mut from = 0;

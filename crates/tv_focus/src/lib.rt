@@ -22,5 +22,5 @@ pub use focused::{Choosing, Focused};
 pub use laws::{formulas_have_atoms_over, sharp_atoms_stay};
 pub use put::put_vector;
 pub use sets::{Sets, VectorSet, copied};
-pub use stage::{focus_stage, into_focused};
+pub use stage::{focus_stage, into_focused, is_known};
 pub use vector::Vector;

@@ -1,7 +1,7 @@
 //! One stage of focus.
 
 ghost use Rattle.std.specs.Prelude.{◌≡◌, ◌<◌, ◌≤◌, ◌++◌, [], length, map, All, IfOk, IfErr, IfNone, IfSome};
-ghost use Rattle.std.specs.Prelude.{OnOk, Some, slice_get, ◌∷◌};
+ghost use Rattle.std.specs.Prelude.{IsTrue, OnOk, Some, slice_get, ◌∷◌};
 ghost use Rattle.tv_model.specs.Form.{form_of};
 ghost use Rattle.tv_struct.specs.StructureForm.{IsOver, arities_of, structure_of, value_at, with_value};
 ghost use Rattle.tv_focus_laws.specs.FocusAtoms.{focus_atoms};
@@ -267,6 +267,25 @@ fn staged(
         Ok(structures) => Ok(Some(structures)),
         Err(error) => Err(error),
     }
+}
+
+/// Whether the atom's values are known in the structure, so that its stage leaves the structure as it is. The
+/// only error is want of memory.
+pub fn is_known(
+    alloc: Global,
+    f: &FocusAtoms<'_>,
+    atom: usize,
+    s: &Structure,
+) -> Result<bool, AllocError>
+    requires formula { AreAtomsOver (arities_of s.now) (form_of f.now) }
+    requires atom { atom < length (focus_atoms (form_of f.now)) }
+    ensures stage { IfOk result
+        (λ known. IsTrue known → AreStage s.now (form_of f.now) atom (s.now ∷ [])) }
+    ensures within { IfOk result (λ known. IsTrue known → IsWithinLimits s.now (form_of f.now) atom) }
+{
+    let _ = s.size();
+    let plan = planned(alloc, f, atom, s)?;
+    Ok(is_sharp(s, plan.pred, &plan.split))
 }
 
 /// One structure for each choice of a focus atom of the formula, in order: the atom `atom`, counted from 0,

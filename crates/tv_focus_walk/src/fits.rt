@@ -8,7 +8,8 @@ ghost use Rattle.tv_focus.specs.Seen.{aim_of};
 ghost use Rattle.tv_focus_step_laws.specs.Above.{HasChoice, HasVectors, copies_so_far, writes_at};
 ghost use Rattle.tv_focus_walk.specs.Walk.{Passes, PassAll};
 
-use tv_focus::{Aim, Vector, VectorSet};
+use crate::lent::Lent;
+use tv_focus::{Aim, Vector};
 use tv_kleene::K3;
 use tv_model::PredId;
 use tv_struct::{Structure, Tuple};
@@ -103,7 +104,7 @@ fn has_vectors(c: &Structure, p: PredId, aim: &Aim, at: u32, set: &[Vector]) -> 
 }
 
 /// Whether the copies from `at` on have the choice's vectors.
-pub fn has_choice(c: &Structure, p: PredId, aim: &Aim, at: u32, choice: &[VectorSet]) -> bool
+pub fn has_choice(c: &Structure, p: PredId, aim: &Aim, at: u32, choice: &[Lent<'_>]) -> bool
     requires aim { IsAimOver c.now p.0 (aim_of aim.now) }
     requires copies { at + copies_so_far choice.now ≤ c.now.size }
     ensures { IsTrue result → HasChoice c.now p.0 (aim_of aim.now) at choice.now }
@@ -112,8 +113,9 @@ pub fn has_choice(c: &Structure, p: PredId, aim: &Aim, at: u32, choice: &[Vector
     match choice {
         [] => true,
         [set, rest @ ..] => {
-            has_vectors(c, p, aim, at, set.as_slice())
-                && has_choice(c, p, aim, at + set.len() as u32, rest)
+            let vectors = set.as_slice();
+            has_vectors(c, p, aim, at, vectors)
+                && has_choice(c, p, aim, at + vectors.len() as u32, rest)
         }
     }
 }

@@ -5,6 +5,7 @@
 
 mod apart;
 mod fits;
+mod lent;
 mod narrow;
 mod since;
 mod split;

@@ -6,13 +6,14 @@ ghost use Rattle.tv_focus_walk.specs.Walk.{CanWalk, Foretells, IsHand, IsReady, 
 
 use crate::apart::is_one_apart;
 use crate::fits::{Test, does_pass};
+use crate::lent::Lent;
 use crate::since::{Since, put_noted, rules_since};
 use crate::split::{put_all, with_copies, with_shift};
 use crate::walk::{Hand, Walk};
 use std::alloc::AllocError;
 use tv_coerce::coerce_in_place;
 use tv_eval::Scratch;
-use tv_focus::{Aim, Sets, Vector, VectorSet};
+use tv_focus::{Aim, Sets, Vector};
 use tv_focus_step_laws::vectors_lead;
 use tv_kleene::K3;
 use tv_struct::Structure;
@@ -64,7 +65,7 @@ fn has_yes(values: &[K3]) -> bool {
 /// makes of it, where that is worth it.
 fn narrowed(
     w: &Walk,
-    begun: &[VectorSet],
+    begun: &[Lent<'_>],
     set: &[Vector],
     given: Given,
     is_worth: bool,
@@ -95,7 +96,7 @@ fn narrowed(
 fn look_at_one(
     w: &Walk,
     hand: Hand<'_>,
-    begun: &[VectorSet],
+    begun: &[Lent<'_>],
     set: &[Vector],
     vector: &Vector,
     rest: &[Sets],
@@ -131,7 +132,7 @@ fn look_at_one(
 fn look_at_several(
     w: &Walk,
     hand: Hand<'_>,
-    begun: &[VectorSet],
+    begun: &[Lent<'_>],
     set: &[Vector],
     rest: &[Sets],
     scratch: &mut Scratch,
@@ -174,7 +175,7 @@ fn look_at_several(
 pub fn look_ahead(
     w: &Walk,
     hand: Hand<'_>,
-    begun: &[VectorSet],
+    begun: &[Lent<'_>],
     set: &[Vector],
     rest: &[Sets],
     scratch: &mut Scratch,

@@ -1,19 +1,21 @@
 //! The walk.
 
-ghost use Rattle.std.specs.Prelude.{[], ◌∷◌, ◌++◌, ◌+◌, ◌≡◌, ◌≤◌, All, length, OnOk};
+ghost use Rattle.std.specs.Prelude.{[], ◌∷◌, ◌++◌, ◌+◌, ◌≡◌, ◌≤◌, All, length, IfOk, OnOk};
 ghost use Rattle.std.specs.List.{flat_map, AllByRecursion};
+ghost use Rattle.tv_focus.specs.Anchored.{IsAimOver};
 ghost use Rattle.tv_focus.specs.Focused.{tables_in};
 ghost use Rattle.tv_focus.specs.Puts.{AreChosen, IsChoiceOf, chosen_tables};
 ghost use Rattle.tv_focus_walk.specs.Walk.{AddsCoerced, CanWalk, IsAbove, IsHand, walk_aim, walk_pred};
 ghost use Rattle.tv_focus_walk.specs.Walk.{walk_table};
 
 use crate::fits::has_choice;
+use crate::lent::{Lent, owned};
 use crate::narrow::{Outlook, look_ahead};
 use crate::since::{Since, rules_since};
 use std::alloc::{AllocError, Global};
 use tv_coerce::{RuleSet, coerce_in_place};
 use tv_eval::Scratch;
-use tv_focus::{Aim, Choosing, Sets, Vector, VectorSet, copied, make_choice};
+use tv_focus::{Aim, Choosing, Sets, Vector, VectorSet, make_choice};
 use tv_focus_step_laws::structures_lead;
 use tv_model::Program;
 use tv_rules::Closed;
@@ -45,7 +47,7 @@ pub struct Hand<'a> {
 fn push_hand(
     w: &Walk,
     hand: Hand<'_>,
-    choice: &[VectorSet],
+    choice: &[Lent<'_>],
     scratch: &mut Scratch,
     out: &mut Structures,
 ) -> Result<(), AllocError>
@@ -65,10 +67,22 @@ fn push_hand(
     }
 }
 
+/// The structure of the choice.
+fn made(w: &Walk, choice: &[Lent<'_>]) -> Result<Structure, AllocError>
+    requires over { IsAimOver w.now.from.now (walk_pred w.now) (walk_aim w.now) }
+    requires choice { IsChoiceOf w.now.from.now (walk_pred w.now) (walk_aim w.now) choice.now }
+    ensures { IfOk result (λ t. t ≡ walk_table w.now choice.now) }
+{
+    let own = owned(w.alloc, choice)?;
+    let choosing = w.choosing;
+    let sets = own.as_slice();
+    make_choice(w.alloc, w.from, choosing.pred, &choosing.aim, sets)
+}
+
 /// Puts the greatest stable structure below the choice behind the others, if there is one.
 fn push_made(
     w: &Walk,
-    choice: &[VectorSet],
+    choice: &[Lent<'_>],
     scratch: &mut Scratch,
     out: &mut Structures,
 ) -> Result<(), AllocError>
@@ -77,7 +91,7 @@ fn push_made(
     ensures out { OnOk result (AddsCoerced w.now (walk_table w.now choice.now ∷ []) out.old out.new) }
     ensures scratch { scratch.new ≡ scratch.old }
 {
-    let t = make_choice(w.alloc, w.from, w.choosing.pred, &w.choosing.aim, choice)?;
+    let t = made(w, choice)?;
     let waiting = w.waiting.copy(w.alloc)?;
     match coerce_in_place(w.alloc, w.closed, t, waiting, scratch)? {
         None => Ok(()),
@@ -90,7 +104,7 @@ fn push_made(
 fn push_choice(
     w: &Walk,
     hand: Hand<'_>,
-    choice: &[VectorSet],
+    choice: &[Lent<'_>],
     scratch: &mut Scratch,
     out: &mut Structures,
 ) -> Result<(), AllocError>
@@ -111,11 +125,11 @@ fn push_choice(
 /// Puts what comes of all choices that begin with `choice` and go on with one set of each of `sets` behind
 /// the others. The structure at hand leads to each of them.
 #[cycle(walk_sets)]
-fn walk_sets(
+fn walk_sets<'a>(
     w: &Walk,
     hand: Hand<'_>,
-    sets: &[Sets],
-    choice: &mut Vec<VectorSet>,
+    sets: &'a [Sets],
+    choice: &mut Vec<Lent<'a>>,
     scratch: &mut Scratch,
     out: &mut Structures,
 ) -> Result<(), AllocError>
@@ -138,12 +152,12 @@ fn walk_sets(
 
 /// The same, for those that go on with one of `first` and one of each of `rest`.
 #[cycle(walk_sets)]
-fn walk_one(
+fn walk_one<'a>(
     w: &Walk,
     hand: Hand<'_>,
-    first: &[VectorSet],
-    rest: &[Sets],
-    choice: &mut Vec<VectorSet>,
+    first: &'a [VectorSet],
+    rest: &'a [Sets],
+    choice: &mut Vec<Lent<'a>>,
     scratch: &mut Scratch,
     out: &mut Structures,
 ) -> Result<(), AllocError>
@@ -173,12 +187,12 @@ fn walk_one(
 /// The same, for those that go on with this set and one of each of `rest`: nothing, where it contradicts what
 /// was known.
 #[cycle(walk_sets)]
-fn walk_with(
+fn walk_with<'a>(
     w: &Walk,
     hand: Hand<'_>,
-    set: &[Vector],
-    rest: &[Sets],
-    choice: &mut Vec<VectorSet>,
+    set: &'a [Vector],
+    rest: &'a [Sets],
+    choice: &mut Vec<Lent<'a>>,
     scratch: &mut Scratch,
     out: &mut Structures,
 ) -> Result<(), AllocError>
@@ -219,12 +233,12 @@ fn walk_with(
 
 /// The same, where the structure at hand leads to each of them with this set.
 #[cycle(walk_sets)]
-fn walk_on(
+fn walk_on<'a>(
     w: &Walk,
     hand: Hand<'_>,
-    set: &[Vector],
-    rest: &[Sets],
-    choice: &mut Vec<VectorSet>,
+    set: &'a [Vector],
+    rest: &'a [Sets],
+    choice: &mut Vec<Lent<'a>>,
     scratch: &mut Scratch,
     out: &mut Structures,
 ) -> Result<(), AllocError>
@@ -239,7 +253,7 @@ fn walk_on(
     ensures choice { OnOk result (choice.new.items ≡ choice.old.items) }
     ensures scratch { scratch.new ≡ scratch.old }
 {
-    choice.push(copied(w.alloc, set)?)?;
+    choice.push(Lent::of(set))?;
     walk_sets(w, hand, rest, choice, scratch, out)?;
     let _ = choice.pop();
     Ok(())

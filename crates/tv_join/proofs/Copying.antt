@@ -15,6 +15,7 @@ use Rattle.tv_struct.proofs.StructureLaws.{writes_one_entry, new_is_no}
 use Rattle.tv_struct.proofs.Library.{get_or-unary_row, entry-arity}
 use Rattle.tv_blur.specs.Classes.{ChangesOnly}
 use Rattle.tv_join.specs.Keyed.{Counts, HasCopied, IsSkeleton}
+use Rattle.tv_join.proofs.Entries.{entry_or_No}
 
 -- a nullary predicate has the value that was put
 pub copied-value : (s t new : StructureForm) (pred : ℕ) (k : K3) → IsStructure t → HasArity t pred 0
@@ -45,6 +46,20 @@ copied-row s new pred size arity row tuple has = at tuple (entry-arity new pred 
         let in_new : w < new.size = has.individuals.0
         in sym (get_or-unary_row s pred w (omega (arith, in_new, size))) ∙ ap (λ r. get_or r w No) (sym row)
         ∙ get_or-unary_row new pred w in_new
+
+-- a unary predicate that is No at each individual is No at all tuples
+pub nowhere-none : (s : StructureForm) (pred : ℕ) → IsStructure s → HasArity s pred 1
+    → ((u : ℕ) → u < s.size → value_at s pred (u ∷ []) ≡ No) → (tuple : List ℕ) → value_at s pred tuple ≡ No
+nowhere-none s pred is arity none tuple = at (entry_or_No s is pred tuple)
+  where
+    one : (us : List ℕ) → length us ≡ 1 → HasEntry (table_of s) pred us → value_at s pred us ≡ No
+    one [] e has = absurd (omega arith)
+    one (w ∷ u ∷ us) e has = absurd (omega arith)
+    one (w ∷ []) e has = none w has.individuals.0
+
+    at : HasEntry (table_of s) pred tuple ⊎ (value_at s pred tuple ≡ No) → value_at s pred tuple ≡ No
+    at (inl has) = one tuple (entry-arity s pred 1 tuple arity has) has
+    at (inr no-value) = no-value
 
 pub copied-none : (counted : List Bool) (s q : StructureForm) → q ≡ structure_of_no s.size (arities_of s)
     → HasCopied counted s 0 q

@@ -1,6 +1,7 @@
 //! Skeletons: what a structure's key says, as a structure.
 
 ghost use Rattle.std.specs.Prelude.{◌≡◌, ◌<◌, ◌+◌, ℕ, List, IfOk, length};
+ghost use Rattle.tv_kleene.specs.declared.K3.TheVariants.{No};
 ghost use Rattle.tv_blur.specs.Classes.{ChangesOnly};
 ghost use Rattle.tv_struct.specs.StructureForm.{arities_of, value_at};
 ghost use Rattle.tv_struct.specs.StructureRows.{HasArity};
@@ -8,7 +9,7 @@ ghost use Rattle.tv_join.specs.Keyed.{AreFlags, HasCopied, IsSkeleton};
 
 use std::alloc::{AllocError, Global};
 use tv_model::PredId;
-use tv_struct::{Structure, Tuple};
+use tv_struct::{Structure, Tuple, is_nowhere};
 
 /// The structure with the individuals of `s` and its values of the predicates whose flag is true; elsewhere
 /// it has `No`, and no summary. Equal ones, and only these, come of structures with the same individuals and
@@ -39,12 +40,13 @@ fn copy_next(t: &mut Structure, s: &Structure, counted: &[bool], p: u32)
     }
 }
 
-/// Puts the values of the predicate in `s` into `t`.
+/// Puts the values of the predicate in `s` into `t`, where it is `No` everywhere.
 fn copy_values(t: &mut Structure, s: &Structure, p: PredId)
     requires size { t.old.size ≡ s.now.size }
     requires over { arities_of t.old ≡ arities_of s.now }
     requires pred { p.0 < length (arities_of s.now) }
     requires small { ¬ HasArity s.now p.0 2 }
+    requires blank { (tuple : List ℕ) → value_at t.old p.0 tuple ≡ No }
     ensures changes { ChangesOnly p.0 t.old t.new }
     ensures values { (tuple : List ℕ) → value_at s.now p.0 tuple ≡ value_at t.new p.0 tuple }
 {
@@ -66,14 +68,20 @@ fn copy_value(t: &mut Structure, s: &Structure, p: PredId)
     t.set(p, Tuple::Zero, s.get(p, Tuple::Zero));
 }
 
+/// The same for a unary predicate: nothing has to be put where it is `No` everywhere, as most are in a
+/// program of many variables.
 fn copy_row(t: &mut Structure, s: &Structure, p: PredId)
     requires size { t.old.size ≡ s.now.size }
     requires over { arities_of t.old ≡ arities_of s.now }
     requires arity { HasArity s.now p.0 1 }
+    requires blank { (tuple : List ℕ) → value_at t.old p.0 tuple ≡ No }
     ensures changes { ChangesOnly p.0 t.old t.new }
     ensures values { (tuple : List ℕ) → value_at s.now p.0 tuple ≡ value_at t.new p.0 tuple }
 {
     let _ = s.size();
+    if is_nowhere(s, p) {
+        return;
+    }
     let row = s.unary_row(p);
     t.set_unary_row(p, &row);
 }

@@ -104,6 +104,7 @@ impl Members {
 
     /// Joins the structure into that at the place, which has its key.
     fn join_at(&mut self, counted: &[bool], place: usize, s: Structure) -> Put
+        requires flags { AreFlags counted.now s }
         requires unmarked { s.fresh ≡ None }
         requires indexed { IsIndexed counted.now self.old }
         requires key { (t : StructureForm) × (slice_get self.old.structures place ≡ Some t)
@@ -112,7 +113,7 @@ impl Members {
         ensures indexed { IsIndexed counted.now self.new }
     {
         let mut joined = s;
-        join_into(&mut joined, &self.structures[place]);
+        join_into(&mut joined, &self.structures[place], counted);
         if is_same(&joined, &self.structures[place]) {
             return Put::Known;
         }

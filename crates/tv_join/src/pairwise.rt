@@ -1,28 +1,49 @@
 //! The join of two structures, in place and by rows.
 
-ghost use Rattle.std.specs.Prelude.{◌≡◌, ◌<◌, ◌||◌, None, length};
+ghost use Rattle.std.specs.Prelude.{◌≡◌, ◌<◌, ◌||◌, ℕ, List, None, length};
 ghost use Rattle.tv_blur.specs.Classes.{ChangesOnly};
-ghost use Rattle.tv_struct.specs.StructureForm.{arities_of, summary_at, IsStructure};
+ghost use Rattle.tv_struct.specs.StructureForm.{arities_of, summary_at, value_at, IsStructure};
 ghost use Rattle.tv_struct.specs.StructureRows.{HasArity};
+ghost use Rattle.tv_join.specs.Keyed.{Counts};
 ghost use Rattle.tv_join.specs.Pairwise.{IsJoined, HasJoinedValues, HasJoinedSummaries};
 
 use tv_model::PredId;
 use tv_struct::{Structure, Tuple};
 
-/// Joins `t` into `s`, which has as many individuals: each value becomes the join of both, and an individual
-/// is a summary where it is one in either.
-pub fn join_into(s: &mut Structure, t: &Structure)
+/// Joins `t` into `s`, which has the same key: each value becomes the join of both, and an individual is a
+/// summary where it is one in either.
+pub fn join_into(s: &mut Structure, t: &Structure, counted: &[bool])
     requires size { s.old.size ≡ t.now.size }
     requires over { arities_of s.old ≡ arities_of t.now }
     requires unmarked { s.old.fresh ≡ None }
+    requires flags { length counted.now ≡ length (arities_of t.now) }
+    requires same { (pred : ℕ) → Counts counted.now pred → (tuple : List ℕ)
+        → value_at s.old pred tuple ≡ value_at t.now pred tuple }
     ensures { IsJoined s.old t.now s.new }
 {
     join_summaries(s, t);
     let count = t.pred_count();
     for p in 0..count {
-        join_values(s, t, PredId(p));
+        join_next(s, t, counted, p);
     }
     let _ = s.size();
+}
+
+/// Joins the values of the next predicate, unless it counts for keys: then both have the same.
+fn join_next(s: &mut Structure, t: &Structure, counted: &[bool], p: u32)
+    requires size { s.old.size ≡ t.now.size }
+    requires over { arities_of s.old ≡ arities_of t.now }
+    requires flags { length counted.now ≡ length (arities_of t.now) }
+    requires pred { p < length (arities_of t.now) }
+    requires same { Counts counted.now p → (tuple : List ℕ)
+        → value_at s.old p tuple ≡ value_at t.now p tuple }
+    ensures changes { ChangesOnly p s.old s.new }
+    ensures values { HasJoinedValues p s.old t.now s.new }
+{
+    if counted[p as usize] {
+        return;
+    }
+    join_values(s, t, PredId(p));
 }
 
 fn join_summaries(s: &mut Structure, t: &Structure)

@@ -67,6 +67,17 @@ pub through-none : (edge : ℕ → ℕ → K3) (stop u w : ℕ) → edge u stop 
 through-none edge stop u w e = sym (ap (λ x. larger_of (edge u w) (smaller_of x (edge stop w))) e ∙ larger-No
     (edge u w))
 
+smaller-No : (x : K3) → smaller_of x No ≡ No
+smaller-No No = refl
+smaller-No Half = refl
+smaller-No Yes = refl
+
+-- a stop without edges adds no walk
+pub through-bare : (edge : ℕ → ℕ → K3) (stop u w : ℕ) → edge stop w ≡ No → edge u w ≡ through edge stop u w
+through-bare edge stop u w none =
+    sym (ap (λ k. larger_of (edge u w) (smaller_of (edge u stop) k)) none
+    ∙ ap (larger_of (edge u w)) (smaller-No (edge u stop)) ∙ larger-No (edge u w))
+
 pub larger-absorbs : (x y : K3) → larger_of y (smaller_of x y) ≡ y
 larger-absorbs No No = refl
 larger-absorbs No Half = refl

@@ -33,7 +33,19 @@ pub fn are_same(one: Edges<'_>, other: Edges<'_>) -> bool
         ↔ ((one.entry.left.0 ≡ other.entry.left.0) × (one.entry.right.0 ≡ other.entry.right.0)
         × (form_of one.entry.body.now ≡ form_of other.entry.body.now)) }
 {
-    one.left.0 == other.left.0 && one.right.0 == other.right.0 && is_same(one.body, other.body)
+    one.left.0 == other.left.0
+        && one.right.0 == other.right.0
+        && are_same_bodies(one.body, other.body)
+}
+
+/// The same as [`is_same`], which atoms, as most bodies are, don't come to.
+fn are_same_bodies(f: &Formula, g: &Formula) -> bool
+    ensures { IsTrue result ↔ (form_of f.now ≡ form_of g.now) }
+{
+    match (f, g) {
+        (Formula::Atom(p, ts), Formula::Atom(q, us)) => p.0 == q.0 && are_same_terms(ts, us),
+        _ => is_same(f, g),
+    }
 }
 
 /// Whether the formulas are the same, names of variables and all.

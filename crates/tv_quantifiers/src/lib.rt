@@ -14,7 +14,7 @@ mod variables;
 pub use chains::{Link, Shape, are_linked, sign_of, split};
 pub use edges::{Edges, are_same, has_outer, is_same};
 pub use height::program_height;
-pub use order::{has_few, is_slower};
+pub use order::{are_few, begins_with, has_few, is_slower};
 pub use parts::{Parts, lone};
 pub use quantifier::Quantifier;
 pub use relation::{Part, Relation};

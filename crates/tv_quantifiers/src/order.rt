@@ -8,15 +8,24 @@ use tv_kleene::K3;
 use tv_model::{Formula, Terms, Var, free};
 use tv_row::{Row, Word};
 
-/// Whether a quantifier over `w` takes longer with `v` put for all individuals at a time than one after the
-/// other: where `v` isn't free in its body, where a long run stands there, or more atoms are read as columns.
-/// A column takes longer than a row.
-fn is_slow_along(body: &Formula, v: Var, w: Var) -> bool {
-    if begins_long_run(body) || !free(body, v) {
+/// For how many individuals at a time it doesn't matter whether an atom is read as a column or a row.
+const FEW: u32 = 12;
+
+/// How deep the first part of a formula is looked for.
+const DEEP: usize = 8;
+
+/// Whether a quantifier over `w` takes longer with `v` put for `count` individuals at a time than one after
+/// the other: where `v` isn't free in its body, or more atoms are read as columns. A column of many values
+/// takes longer than a row.
+fn is_slow_along(body: &Formula, v: Var, w: Var, count: u32) -> bool {
+    if !free(body, v) {
         return true;
     }
-    let count = columns(body, v);
-    count > 0 && count > columns(body, w)
+    if count <= FEW {
+        return false;
+    }
+    let columns_of = columns(body, v);
+    columns_of > 0 && columns_of > columns(body, w)
 }
 
 /// How many atoms are read as columns where the variable is put for all individuals: they have it first
@@ -43,6 +52,33 @@ pub fn has_few(caps: Word) -> bool {
     }
 }
 
+/// Whether at most two of the values aren't `No`: a hint, of which nothing is promised.
+pub fn are_few(caps: &Row) -> bool {
+    let _ = caps.size();
+    let mut from = 0;
+    for _ in 0..2 {
+        match caps.next_possible(from) {
+            None => return true,
+            Some(u) => from = u + 1,
+        }
+    }
+    caps.next_possible(from).is_none()
+}
+
+/// Whether a predicate of the variable alone stands first in the formula, so that it will be true for few
+/// individuals: a hint, of which nothing is promised.
+pub fn begins_with(f: &Formula, w: Var) -> bool {
+    let mut part = f;
+    for _ in 0..DEEP {
+        match part {
+            Formula::And(g, _) | Formula::Or(g, _) | Formula::Not(g) => part = g,
+            Formula::Atom(_, Terms::One(x)) => return x.0 == w.0,
+            _ => return false,
+        }
+    }
+    false
+}
+
 /// Whether the quantifier over `w` takes longer with `v` put for all individuals at a time than one after the
 /// other: the first `count` values of `front` are those of `v`, and `caps` those of `w`. A hint, of which
 /// nothing is promised.
@@ -52,12 +88,15 @@ pub fn is_slower(body: &Formula, v: Var, w: Var, front: Word, count: u32, caps: 
     if begins_long_run(body) {
         return true;
     }
+    if are_few(caps) {
+        return false;
+    }
     if caps.are_possible() && front.least(count) != K3::No {
-        return is_slow_along(body, v, w);
+        return is_slow_along(body, v, w, count);
     }
     match compare_counts(front, caps) {
         Ordering::Less => true,
-        Ordering::Equal => is_slow_along(body, v, w),
+        Ordering::Equal => is_slow_along(body, v, w, count),
         Ordering::Greater => false,
     }
 }

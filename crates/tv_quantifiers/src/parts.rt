@@ -18,8 +18,9 @@ use tv_row::Word;
 /// How many words of values are kept, at most.
 const PLACES: usize = 8;
 
-/// For how many evaluations of quantified formulas one is long: values of no other are kept.
-const LONG: usize = 256;
+/// For how many quantified formulas one is long: values of no other are kept. Over more than 64 individuals
+/// one that asks for another at each of them, for two words of its own, is long.
+const LONG: usize = 128;
 
 /// Whose values stand at a place: the formula's for the individuals from `64 * chunk` on, put for `var`.
 #[derive(Clone, Copy)]
@@ -54,7 +55,7 @@ impl<'f> Parts<'f> {
         }
     }
 
-    /// Counts an evaluation of a quantified formula: how many there were by then.
+    /// Counts a quantified formula that is asked for: how many there were by then.
     #[inline(always)]
     pub fn turn(&mut self) -> usize
         ensures { (s : LogicalStructure) → HoldsParts s self.old → HoldsParts s self.new }

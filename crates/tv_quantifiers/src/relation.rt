@@ -1,7 +1,9 @@
 //! A relation of individuals with three truth values, and its transitive closure.
 
-ghost use Rattle.std.specs.Prelude.{ℕ, ◌≡◌, ◌≢◌, ◌<◌, ◌≤◌, ◌*◌, [], length, IfOk, slice_index_or, slice_set};
+ghost use Rattle.std.specs.Prelude.{ℕ, ◌≡◌, ◌≢◌, ◌<◌, ◌≤◌, ◌*◌, [], length, IfOk, IsTrue};
+ghost use Rattle.std.specs.Prelude.{slice_index_or, slice_set};
 ghost use Rattle.std.specs.List.{range_with_len};
+ghost use Rattle.tv_kleene.specs.declared.K3.TheVariants.{No};
 ghost use Rattle.tv_row.specs.Places.{entry_in};
 ghost use Rattle.tv_eval_laws.specs.Value.{best_walk};
 ghost use Rattle.tv_quantifiers.specs.Words.{IsWordOf};
@@ -137,9 +139,21 @@ impl Relation {
         ensures square { IsSquare size self.new }
         ensures size { length self.new ≡ length self.old }
     {
+        if self.is_bare(stop) {
+            return;
+        }
         for u in 0..size {
             self.extend(u, stop, size);
         }
+    }
+
+    /// Whether each value from `u` to an individual is `No`.
+    fn is_bare(&self, u: u32) -> bool
+        requires { u < length self.now }
+        ensures { IsTrue result → (w : ℕ) → w < length (slice_index_or self.now u [])
+            → entry_in self.now u w ≡ No }
+    {
+        self.rows[u as usize].next_possible(0).is_none()
     }
 
     /// Lets the walks from `u` pass through `stop` too.

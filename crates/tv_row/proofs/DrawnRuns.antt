@@ -1,7 +1,7 @@
 -- Words and rows that are drawn run by run.
 use Rattle.std.proofs.Common.{ℕ, ◌≡◌, ◌≢◌, ◌<◌, ◌≤◌, ◌+◌, ◌-◌, ◌*◌, ◌/◌, ◌%◌, ◌⊎◌, inl, inr, ⊎_elim, Bool}
 use Rattle.std.proofs.Common.{true, false, ◌&&◌, cond, eqb, ltb, leb, List, [], ◌∷◌, ◌++◌, length, map}
-use Rattle.std.proofs.Common.{get_or}
+use Rattle.std.proofs.Common.{get_or, zero-add}
 use Rattle.std.proofs.Common.{set, take, refl, sym, ap, ◌∙◌, arith}
 use Rattle.std.proofs.lemmas.Bool.{cases_eq, cases_lt, lt-ltb, le-ltb, le-leb, lt-leb}
 use Rattle.std.proofs.lemmas.Nat.Bits.{bit_at_above}
@@ -15,7 +15,10 @@ use Rattle.tv_row.specs.Bits.{bit, value_of, values_of, IsWord}
 use Rattle.tv_row.specs.BitLaws.{length-values_of, get_or-values_of}
 use Rattle.tv_row.specs.Places.{AreWords, word_at, value_in, row_of}
 use Rattle.tv_row.specs.RowForm.{HoldsRow}
-use Rattle.tv_row.specs.Drawing.{DrawingForm, drawn_from, covers, run_over, drawn_by, IsRunOfColumns}
+use Rattle.std.specs.List.{range_with_len}
+use Rattle.std.proofs.lemmas.List.FromFn.{length-range_with_len, get_or-range_with_len}
+use Rattle.tv_row.specs.Drawing.{all_and_next, DrawingForm, drawn_from, covers, run_over, drawn_by}
+use Rattle.tv_row.specs.Drawing.{IsRunOfColumns}
 use Rattle.tv_row.specs.declared.drawing.Run.{Run}
 use Rattle.tv_row.proofs.PlaceLaws.{length-row_of, get_or-row_of}
 
@@ -167,6 +170,28 @@ module _ (words source : List (List K3)) (at from : ℕ) (run : Run) (new : List
           value_inside c le within
           ∙ sym (ap (λ b. cond b (value_in source from (run.from + (c - run.to))) (value_in words at c)) (covered run c le within))
 
+-- a run of one word
+pub word_run : (old source new : List K3) (run : Run)
+    → ((i : ℕ) → i < run.count → get_or new (run.to + i) No ≡ get_or source (run.from + i) No)
+    → ((j : ℕ) → (j < run.to) ⊎ (run.to + run.count ≤ j) → get_or new j No ≡ get_or old j No)
+    → (c : ℕ) → get_or new c No ≡ run_over (λ i. get_or source i No) c (get_or old c No) run
+word_run old source new run taken kept c = cases (cases_lt c run.to) (cases_lt c (run.to + run.count))
+  where
+    value : ℕ → K3
+    value i = get_or source i No
+
+    apart : (c < run.to) ⊎ (run.to + run.count ≤ c) → get_or new c No ≡ run_over value c (get_or old c No) run
+    apart out = kept c out ∙ sym (ap (λ b. cond b (value (run.from + (c - run.to))) (get_or old c No)) (outside run c out))
+
+    cases : (c < run.to) ⊎ (run.to ≤ c) → (c < run.to + run.count) ⊎ (run.to + run.count ≤ c)
+        → get_or new c No ≡ run_over value c (get_or old c No) run
+    cases (inl before) other = apart (inl before)
+    cases (inr le) (inr past) = apart (inr past)
+    cases (inr le) (inl within) =
+        let here : c ≡ run.to + (c - run.to) = omega arith
+        in ap (λ n. get_or new n No) here ∙ taken (c - run.to) (omega arith)
+        ∙ sym (ap (λ b. cond b (value (run.from + (c - run.to))) (get_or old c No)) (covered run c le within))
+
 -- a run's word is one of its row's
 pub run_apart : (at width columns size p : ℕ) (run : Run) → IsRunOfColumns columns size run → size ≤ 64 * width → (p < at) ⊎ (at + width ≤ p)
     → p ≢ at + run.to / 64
@@ -197,6 +222,34 @@ drawn_end value d c le = drawn_past value d c (omega (arith, get_or_past d.origi
 pub drawn_at : (value : ℕ → K3) (d : DrawingForm) (c o : ℕ) → get_or d.origins c d.columns ≡ o → o < d.columns → drawn_from value d c ≡ value o
 drawn_at value d c o e lt =
     ap (λ n. cond (ltb n d.columns) (value n) No) e ∙ ap (λ b. cond b (value o) No) (lt-ltb o d.columns lt)
+
+-- what is drawn rests on the values of the columns alone
+pub drawn_same : (value other : ℕ → K3) (d : DrawingForm) (c : ℕ) → ((o : ℕ) → o < d.columns → value o ≡ other o)
+    → drawn_from value d c ≡ drawn_from other d c
+drawn_same value other d c same =
+    let o : ℕ = get_or d.origins c d.columns
+    in ⊎_elim
+    (λ lt. drawn_at value d c o refl lt ∙ same o lt ∙ sym (drawn_at other d c o refl lt))
+    (λ le. drawn_past value d c le ∙ sym (drawn_past other d c le))
+    (cases_lt o d.columns)
+
+-- all columns and one that is No
+pub drawn_next : (value : ℕ → K3) (n c : ℕ) → cond (ltb c n) (value c) No ≡ drawn_from value (all_and_next n) c
+drawn_next value n c =
+    let origins : List ℕ = range_with_len 0 (n + 1)
+    in let long : length origins ≡ n + 1 = length-range_with_len 0 (n + 1)
+    in ⊎_elim
+    (λ lt.
+    ap (λ b. cond b (value c) No) (lt-ltb c n lt)
+    ∙ sym (drawn_at value (all_and_next n) c c (get_or-range_with_len 0 (n + 1) c n (omega arith) ∙ zero-add c) lt))
+    (λ le.
+    let past : n ≤ get_or origins c n
+    = ⊎_elim
+    (λ here. omega (arith, get_or-range_with_len 0 (n + 1) c n (omega (arith, here))))
+    (λ other. omega (arith, get_or_past origins c n (omega (arith, long, other, le))))
+    (cases_eq c n)
+    in ap (λ b. cond b (value c) No) (le-ltb c n le) ∙ sym (drawn_past value (all_and_next n) c past))
+    (cases_lt c n)
 
 module _ (d : DrawingForm) (runs : List Run) (at : ℕ) (before : DrawnBefore d runs at) where
   -- a column that comes from past the end is passed over

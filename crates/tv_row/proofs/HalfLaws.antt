@@ -10,7 +10,13 @@ use Rattle.tv_row.specs.Bits.{bit, value_of, number_of, is_possible}
 use Rattle.tv_row.specs.BitLaws.{bit_of_number, bit-zero, get_or-values_of, length-values_of}
 use Rattle.tv_row.specs.Places.{row_of}
 use Rattle.tv_row.specs.RowForm.{HoldsRow, half_word}
-use Rattle.tv_row.proofs.RowOps.{FilledTo, four_filled, filled_holds, filled_row}
+use Rattle.std.specs.List.{range_with_len}
+use Rattle.std.proofs.Common.{map}
+use Rattle.std.proofs.lemmas.List.{ext_get_or}
+use Rattle.std.proofs.lemmas.List.FromFn.{length-map-range_with_len, get_or-map-range_with_len}
+use Rattle.tv_row.specs.RowLaws.{read_held}
+use Rattle.tv_row.proofs.PlaceLaws.{length-row_of, get_or-row_of}
+use Rattle.tv_row.proofs.RowOps.{length_seen, FilledTo, four_filled, filled_holds, filled_row}
 
 -- what isn't Yes is told by one bit
 half_back : (k : K3) → k ≢ Yes → value_of (is_possible k) (bit 0 0) ≡ k
@@ -83,3 +89,27 @@ module _ (now : List K3) (a b c d : List K3) (small : length now ≤ 256) (halve
       filled_row (half_word (number_of is_possible a) ∷ half_word (number_of is_possible b) ∷ half_word (number_of is_possible c) ∷ half_word (number_of is_possible d) ∷ [])
       size 4 half filled (omega (arith, e, small)) (omega (arith, e, small)) long (λ column le low. past column (omega (arith, e, le)) (omega (arith, low)))
       now (sym e) (λ column lt. at column (omega (arith, e, lt, small)))
+
+-- ---- one value more
+
+module _ (words : List (List K3)) (size : ℕ) (now : List K3) (h : HoldsRow words size) (view : row_of words size 0 ≡ now)
+    (small : length now < 256) where
+  pub next_holds : HoldsRow words (size + 1)
+  next_holds = record {
+    words_have = h.words_have;
+    as_many = h.as_many;
+    small = omega (arith, small, length_seen words size now view);
+    unused = λ c past low. h.unused c (omega (arith, past)) low;
+  }
+
+  pub next_is : row_of words (size + 1) 0 ≡ map (λ origin. get_or now origin No) (range_with_len 0 (length now + 1))
+  next_is =
+      let long : length now ≡ size = length_seen words size now view
+      in ext_get_or No (row_of words (size + 1) 0) (map (λ origin. get_or now origin No) (range_with_len 0 (length now + 1)))
+      (length-row_of words (size + 1) 0 ∙ ap (λ n. n + 1) (sym long)
+      ∙ sym (length-map-range_with_len (λ origin. get_or now origin No) 0 (length now + 1)))
+      (λ c l.
+      let lt : c < size + 1 = omega (arith, l, length-row_of words (size + 1) 0)
+      in get_or-row_of words (size + 1) 0 c lt ∙ sym (read_held words size c h (omega (arith, lt, long, small)))
+      ∙ ap (λ (row : List K3). get_or row c No) view
+      ∙ sym (get_or-map-range_with_len (λ origin. get_or now origin No) 0 (length now + 1) c c No (omega (arith, lt, long)) (omega arith)))

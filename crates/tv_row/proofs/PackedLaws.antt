@@ -644,24 +644,6 @@ pub no_item : padded 0 (replicate 64 No) ≡ replicate 64 No
 unfolding padded
 no_item = refl
 
--- a run of one value puts it
-pub run_of_one : (word new item : List K3) (to from : ℕ) (k : K3) → length word ≡ 64 → length new ≡ 64 → to < 64
-    → ((i : ℕ) → i < 1 → get_or new (to + i) No ≡ get_or item (from + i) No)
-    → ((j : ℕ) → (j < to) ⊎ (to + 1 ≤ j) → get_or new j No ≡ get_or word j No) → get_or item from No ≡ k → new ≡ set word to k
-run_of_one word new item to from k long long' low taken kept is =
-    ext_get_or No new (set word to k) (long' ∙ sym (length-set word to k ∙ long))
-    (λ j l.
-    ⊎_elim
-    (λ e.
-    let there : j ≡ to + 0 = omega (arith, e)
-    in let here : from + 0 ≡ from = omega arith
-    in ap (λ n. get_or new n No) there ∙ taken 0 (omega arith) ∙ ap (λ n. get_or item n No) here ∙ is
-    ∙ sym (ap (λ n. get_or (set word to k) n No) e ∙ get_or-set_same word to k No (omega (arith, long, low))))
-    (λ ne.
-    kept j (⊎_elim (λ before. inl before) (λ from_on. inr (omega (arith, ne, from_on))) (cases_lt j to))
-    ∙ sym (get_or-set_other word to j k No ne))
-    (cases_eq j to))
-
 -- ---- rows of one word
 
 pub alone_value : (word : List K3) (size u : ℕ) → size ≤ 64 → u < size → get_or (row_of (word ∷ []) size 0) u No ≡ get_or word u No

@@ -1,6 +1,7 @@
 -- Rows whose columns come from columns of other rows.
 use Rattle.std.specs.Prelude.{ℕ, ◌≡◌, ◌+◌, ◌-◌, ◌%◌, ◌<◌, ◌≤◌, Bool, ◌&&◌, nat_lt, nat_le, if◌then◌else◌}
 use Rattle.std.specs.Prelude.{List, length, fold, All, slice_index_or}
+use Rattle.std.specs.List.{range_with_len}
 use Rattle.tv_kleene.specs.declared.K3.{K3}
 use Rattle.tv_kleene.specs.declared.K3.TheVariants.{No}
 use Rattle.tv_row.specs.declared.drawing.Run.{Run}
@@ -9,6 +10,10 @@ use Rattle.tv_row.specs.declared.drawing.Run.{Run}
 pub record DrawingForm : Type 0 where
   pub origins : List ℕ
   pub columns : ℕ
+
+-- all columns, and one that comes from past the end
+abbrev pub all_and_next : (columns : ℕ) → DrawingForm
+all_and_next columns = record { origins = range_with_len 0 (columns + 1); columns = columns }
 
 -- the value at a column's origin, and No where there is none
 abbrev pub drawn_from : (value : ℕ → K3) → DrawingForm → (column : ℕ) → K3

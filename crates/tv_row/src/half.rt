@@ -1,10 +1,14 @@
 //! Rows without a certain value, in half the room.
 
-ghost use Rattle.std.specs.Prelude.{◌≡◌, ◌≢◌, All};
-ghost use Rattle.tv_kleene.specs.declared.K3.TheVariants.{Yes};
+ghost use Rattle.std.specs.Prelude.{◌≡◌, ◌≢◌, ◌<◌, ◌+◌, All, length, map, slice_index_or};
+ghost use Rattle.std.specs.List.{range_with_len};
+ghost use Rattle.std.specs.Cmp.Lexicographic.{slice_cmp};
+ghost use Rattle.tv_row.specs.Bits.{value_cmp};
+ghost use Rattle.tv_kleene.specs.declared.K3.TheVariants.{No, Yes};
 
 use crate::row::Row;
 use crate::word::Word;
+use std::cmp::Ordering;
 use std::marker::Model;
 
 /// Up to 256 values none of which is `Yes`, seen by contracts as their list: one bit a value.
@@ -66,5 +70,29 @@ impl HalfRow {
             Word::half(self.bits[3]),
         ];
         Row::held(words, self.size)
+    }
+
+    /// The same values, and one more that is `No`.
+    pub fn extended(&self) -> HalfRow
+        requires { length self.now < 256 }
+        ensures { result ≡ map (λ origin. slice_index_or self.now origin No)
+            (range_with_len 0 (length self.now + 1)) }
+    {
+        HalfRow {
+            bits: self.bits,
+            size: self.size + 1,
+        }
+    }
+
+    /// Compares the values, place by place, with No < Half.
+    #[inline(always)]
+    pub fn compare(&self, other: &HalfRow) -> Ordering
+        requires { length self.now ≡ length other.now }
+        ensures { result ≡ slice_cmp value_cmp self.now other.now }
+    {
+        if self.size <= 64 {
+            return Word::half(self.bits[0]).compare(Word::half(other.bits[0]));
+        }
+        self.as_row().compare(&other.as_row())
     }
 }

@@ -2,14 +2,16 @@
 
 ghost use Rattle.std.specs.List.{range_with_len};
 ghost use Rattle.std.specs.Prelude.{◌≡◌, ℕ, ◌+◌, ◌*◌, ◌/◌, ◌%◌, ◌^◌, min, map, ◌<◌, ◌≤◌, ◌⊎◌, length};
-ghost use Rattle.std.specs.Prelude.{slice_index_or, slice_set, replicate, fold, IfOk};
+ghost use Rattle.std.specs.Prelude.{slice_index_or, slice_set, replicate, fold, IfOk, ◌≢◌};
 ghost use Rattle.tv_kleene.specs.declared.K3.TheVariants.{No};
 ghost use Rattle.std.specs.Cmp.Lexicographic.{slice_cmp};
 ghost use Rattle.tv_row.specs.Bits.{value_cmp};
+ghost use Rattle.tv_row.specs.Drawing.{drawn_from, all_and_next};
 ghost use Rattle.tv_row.specs.Mixed.{word_mixed};
 ghost use Rattle.tv_row.specs.Packed.{PackedForm, FillsWord, cells_for, packed};
 ghost use Rattle.tv_row.specs.Places.{AreWords, word_at, value_in, with_value, row_of};
 
+use crate::drawing::Drawing;
 use crate::mixed::mix_words;
 use crate::row::Row;
 use crate::slices;
@@ -109,6 +111,7 @@ impl PackedWords {
     fn len(&self) -> usize
         ensures value { result ≡ length self.now.words }
         ensures small { result ≤ 2 ^ 48 }
+        ensures cells { self.now.cells ≤ 64 }
         ensures words { AreWords self.now.words }
     {
         self.count
@@ -234,6 +237,41 @@ impl PackedWords {
         self.items[place]
     }
 
+    /// Draws the word at a place from one of another list, and changes no other.
+    pub fn draw(&mut self, place: usize, source: &PackedWords, from: usize, drawing: &Drawing)
+        requires place { place < length self.old.words }
+        requires from { from < length source.now.words }
+        requires room { length drawing.now.origins ≤ self.old.cells }
+        requires columns { drawing.now.columns ≤ source.now.cells }
+        ensures cells { self.new.cells ≡ self.old.cells }
+        ensures values { (c : ℕ) → c < 64 → value_in self.new.words place c
+            ≡ drawn_from (value_in source.now.words from) drawing.now c }
+        ensures others { (p : ℕ) → p ≢ place → word_at self.new.words p ≡ word_at self.old.words p }
+        ensures length { length self.new.words ≡ length self.old.words }
+    {
+        let _ = (self.len(), source.len());
+        let word = source.front(from).drawn(drawing);
+        self.put_word(place, word);
+    }
+
+    /// Draws the word at a place from the first `columns` values of one of another list, and one more that is
+    /// `No`, and changes no other.
+    pub fn extend(&mut self, place: usize, source: &PackedWords, from: usize, columns: u32)
+        requires place { place < length self.old.words }
+        requires from { from < length source.now.words }
+        requires room { columns < self.old.cells }
+        requires columns { columns ≤ source.now.cells }
+        ensures cells { self.new.cells ≡ self.old.cells }
+        ensures values { (c : ℕ) → c < 64 → value_in self.new.words place c
+            ≡ drawn_from (value_in source.now.words from) (all_and_next columns) c }
+        ensures others { (p : ℕ) → p ≢ place → word_at self.new.words p ≡ word_at self.old.words p }
+        ensures length { length self.new.words ≡ length self.old.words }
+    {
+        let _ = (self.len(), source.len());
+        let word = source.front(from).first(columns);
+        self.put_word(place, word);
+    }
+
     /// Puts the row's values into the words from `start` on, and `No` behind them in the last.
     pub fn put_row(&mut self, start: usize, row: &Row)
         requires words { start + (length row.now / 64 + min 1 (length row.now % 64)) ≤ length self.old.words }
@@ -253,22 +291,25 @@ impl PackedWords {
         }
     }
 
-    /// The word with the value in a column of the row that begins at word `start` put at `to`.
+    /// The word with each value one place nearer to the front, and last the value in a column of the row that
+    /// begins at word `start`.
     #[inline(always)]
-    fn with_cell(&self, word: Word, to: u32, start: usize, column: usize) -> Word
-        requires to { to < 64 }
-        requires long { length word ≡ 64 }
+    fn pushed_cell(&self, word: Word, start: usize, column: usize) -> Word
         requires word { start + column / 64 < length self.now.words }
         requires room { column % 64 < self.now.cells }
-        ensures value { result ≡ slice_set word to (value_in self.now.words start column) }
+        ensures last { slice_index_or result 63 No ≡ value_in self.now.words start column }
+        ensures moved { (i : ℕ) → i < 63 → slice_index_or result i No ≡ slice_index_or word (1 + i) No }
         ensures long { length result ≡ 64 }
     {
         let at = self.place(start, column);
-        word.with_run(to, self.items[at / 64], (at % 64) as u32, 1)
+        word.from(1)
+            .with_run(63, self.items[at / 64], (at % 64) as u32, 1)
     }
 
-    /// The values in a column of at most 64 rows, and `No` behind them.
-    fn column_word(&self, width: usize, start: usize, rows: u32, column: usize) -> Word
+    /// The values in a column of that many rows of `width` words, at most 64, the first of which begins at
+    /// `start`. What stands behind them isn't told.
+    pub fn column_word(&self, width: usize, start: usize, rows: u32, column: usize) -> Word
+        requires some { 0 < rows }
         requires rows { rows ≤ 64 }
         requires width { width ≤ 4 }
         requires words { start + rows * width ≤ length self.now.words }
@@ -276,15 +317,14 @@ impl PackedWords {
         requires room { column % 64 < self.now.cells }
         ensures values { (u : ℕ) → u < rows
             → slice_index_or result u No ≡ value_in self.now.words (start + u * width) column }
-        ensures unused { (u : ℕ) → rows ≤ u → u < 64 → slice_index_or result u No ≡ No }
         ensures long { length result ≡ 64 }
     {
         let _ = self.len();
         let mut word = Word::of(0, K3::No);
         for u in 0..rows {
-            word = self.with_cell(word, u, start + u as usize * width, column);
+            word = self.pushed_cell(word, start + u as usize * width, column);
         }
-        word
+        word.from(64 - rows)
     }
 
     /// The values in a column of that many rows of `width` words, the first of which begins at `start`.
@@ -298,7 +338,8 @@ impl PackedWords {
             ≡ map (λ u. value_in self.now.words (start + u * width) column) (range_with_len 0 rows) }
     {
         if 0 < rows && rows <= 64 {
-            return Row::alone(self.column_word(width, start, rows, column), rows);
+            let word = self.column_word(width, start, rows, column);
+            return Row::alone(word.first(rows), rows);
         }
         self.column_more(width, start, rows, column)
     }

@@ -5,11 +5,13 @@ ghost use Rattle.std.specs.Prelude.{replicate, MatchOption, take};
 ghost use Rattle.tv_kleene.specs.declared.K3.TheVariants.{No, Yes};
 ghost use Rattle.tv_kleene.specs.Kleene.{smaller_of, larger_of, join_of, negation_of};
 ghost use Rattle.std.specs.Cmp.Lexicographic.{slice_cmp};
+ghost use Rattle.tv_row.specs.Drawing.{drawn_from};
 ghost use Rattle.tv_row.specs.Firsts.{IsFirstFrom};
 ghost use Rattle.tv_row.specs.Bits.{value_cmp, value_of, values_of, paired, padded, greatest_in, least_in};
 ghost use Rattle.tv_row.specs.Bits.{yes_unless_no, is_possible, is_certain, number_of};
 
 use crate::bits::{first_from, from, has, ones_below, when, with, with_bits};
+use crate::drawing::Drawing;
 use std::cmp::Ordering;
 use std::marker::Model;
 use tv_kleene::K3;
@@ -244,6 +246,23 @@ impl Word {
             may: with_bits(self.may, to, other.may, from, count),
             must: with_bits(self.must, to, other.must, from, count),
         }
+    }
+
+    /// The values at the origins, and `No` for an origin past the end.
+    #[inline(always)]
+    pub(crate) fn drawn(self, drawing: &Drawing) -> Word
+        requires room { length drawing.now.origins ≤ 64 }
+        requires columns { drawing.now.columns ≤ 64 }
+        ensures values { (c : ℕ) → c < 64 → slice_index_or result c No
+            ≡ drawn_from (λ i. slice_index_or self i No) drawing.now c }
+        ensures long { length result ≡ 64 }
+    {
+        let mut word = Word::of(0, K3::No);
+        let runs = drawing.runs();
+        for run in runs {
+            word = word.with_run(run.to, self, run.from, run.count);
+        }
+        word
     }
 
     /// The lesser values.

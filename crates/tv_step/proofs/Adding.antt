@@ -84,6 +84,14 @@ pub adds-next : {X Y : Type 0} (R : X → List Y → Type 0) (xs : List X) (i : 
 adds-next R xs i x ys zs ws lt is before made =
     rw (add-one, take-suc xs i x lt, ← is) (adds-more R (take i xs) x ys zs ws before made)
 
+-- elements of which each makes itself alone
+pub from-itself : {X : Type 0} (R : X → List X → Type 0) (xs : List X) (i : ℕ) (x : X) → i < length xs
+    → x ≡ get_or xs i x → AreFrom R (take i xs) (take i xs) → R x (x ∷ [])
+    → AreFrom R (take (i + 1) xs) (take (i + 1) xs)
+from-itself R xs i x lt is before own =
+    rw (add-one, take-suc xs i x lt, ← is)
+    (from-append R (take i xs) (x ∷ []) (take i xs) (x ∷ []) before (from-one R x (x ∷ []) own))
+
 pub item-there : {X : Type 0} (xs : List X) (i : ℕ) (x : X) → i < length xs → x ≡ get_or xs i x
     → Contains xs x
 item-there xs i x lt is = (i, lt, sym is)

@@ -1,19 +1,19 @@
 -- Rules that are met by definitions that were evaluated anew, and sets without them.
-use Rattle.std.proofs.Common.{ℕ, zero, suc, ◌≡◌, ◌≢◌, ◌<◌, ◌≤◌, ◌+◌, ◌⊎◌, ◌∙◌, Bool, true, false, List, []}
+use Rattle.std.proofs.Common.{ℕ, zero, suc, ◌≡◌, ◌⊎◌, ◌∙◌, Bool, true, false, List, []}
 use Rattle.std.proofs.Common.{◌∷◌, ◌++◌}
-use Rattle.std.proofs.Common.{length, map, Some, None, Option, slice_get, inl, inr, ⊎_elim, refl, sym, ap}
+use Rattle.std.proofs.Common.{length, Some, inl, inr, ⊎_elim, refl, sym, ap}
 use Rattle.std.proofs.Common.{subst}
-use Rattle.std.proofs.Common.{All, Contains, arith, get_or, unwrap_or}
+use Rattle.std.proofs.Common.{All, Contains, arith}
 use Rattle.std.specs.Prelude.{slice_index_or}
 use Rattle.std.proofs.lemmas.List.Elements.{All-contains}
 use Rattle.tv_model.proofs.Lists.{Contains-none}
 use Rattle.tv_model.specs.Program.{ProgramForm, RuleForm}
 use Rattle.tv_model.specs.declared.program.Rule.{Rule}
-use Rattle.tv_coerce.specs.RuleSets.{HasFewer, IsIn, IsStableBut}
-use Rattle.tv_rules.specs.Defining.{HasDefinedValues, IsOfDefinition}
+use Rattle.tv_coerce.specs.RuleSets.{HasFewer, IsIn}
+use Rattle.tv_rules.specs.Defining.{IsOfDefinition}
 use Rattle.tv_rules.specs.EntryForms.{rules_of}
 use Rattle.tv_rules.proofs.DefinedValues.{defined_values_are_stable}
-use Rattle.tv_struct.specs.StructureForm.{StructureForm, structure_of}
+use Rattle.tv_struct.specs.StructureForm.{StructureForm}
 use Rattle.tv_update_laws.specs.Applied.{kind_at}
 use Rattle.tv_step.specs.Changed.{IsFew}
 use Rattle.tv_step.specs.Redefined.{AreDefining, AreOfDefinitions, IsListed, IsMetBy, IsOfRedefined}

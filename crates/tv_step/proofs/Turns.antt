@@ -116,6 +116,14 @@ focus-itself p place s t old new shaped stable same zip is = (
   is,
 )
 
+pub known-itself : (p : ProgramForm) (place : FocusPlace) (s : StructureForm) → IsShaped p s → IsStableIn p s
+    → AreStage s place.formula place.atom (s ∷ []) → Focuses p place s (s ∷ [])
+known-itself p place s shaped stable are = (
+  s ∷ [],
+  tables-of p s shaped (s ∷ []) (choices_at s place) are,
+  from-one (Coerces p) s (s ∷ []) (stable-coerces p s shaped stable),
+)
+
 -- what became of the structure, in the words of the turn
 pub made-stage : (s : StructureForm) (f g : Formula) (k : ℕ) (focused m : Focused) → f ≡ g → focused ≡ m
     → AreStage s (form_of f) k (structures_in focused) → AreStage s (form_of g) k (structures_in m)

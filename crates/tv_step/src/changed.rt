@@ -128,14 +128,14 @@ fn waiting_in_some(
 fn waiting_by_changes(
     x: &Setting,
     waiting: &RuleSet,
-    parent: Parent<'_>,
+    parent: &Parent<'_>,
     s: &Structure,
 ) -> Result<Option<RuleSet>, AllocError>
     requires valid { IsValid (form_in x.now) }
     requires rules { rules_of x.now.closed.now ≡ closed_rules (form_in x.now) }
-    requires like { arities_of parent.from.now ≡ arities_of s.now }
-    requires from { IsStableIn (form_in x.now) parent.from.now }
-    requires within { DiffersWithin parent.reach parent.from.now s.now }
+    requires like { arities_of parent.now.from.now ≡ arities_of s.now }
+    requires from { IsStableIn (form_in x.now) parent.now.from.now }
+    requires within { DiffersWithin parent.now.reach parent.now.from.now s.now }
     requires count { length waiting.now ≡ length (rules_of x.now.closed.now) }
     requires rest { IsStableBut (rules_of x.now.closed.now) waiting.now s.now }
     ensures { IfOk result (IsFew (form_in x.now) (rules_of x.now.closed.now) s.now) }
@@ -175,17 +175,17 @@ fn remove_met(redefined: Redefined<'_>, set: &mut RuleSet)
 pub fn waiting_in(
     x: &Setting,
     waiting: &RuleSet,
-    parent: Parent<'_>,
+    parent: &Parent<'_>,
     s: &Structure,
 ) -> Result<Option<RuleSet>, AllocError>
     requires valid { IsValid (form_in x.now) }
     requires rules { rules_of x.now.closed.now ≡ closed_rules (form_in x.now) }
-    requires like { arities_of parent.from.now ≡ arities_of s.now }
-    requires from { IsStableIn (form_in x.now) parent.from.now }
-    requires within { DiffersWithin parent.reach parent.from.now s.now }
+    requires like { arities_of parent.now.from.now ≡ arities_of s.now }
+    requires from { IsStableIn (form_in x.now) parent.now.from.now }
+    requires within { DiffersWithin parent.now.reach parent.now.from.now s.now }
     requires count { length waiting.now ≡ length (rules_of x.now.closed.now) }
     requires rest { IsStableBut (rules_of x.now.closed.now) waiting.now s.now }
-    requires met { IsMetBy parent.redefined (rules_of x.now.closed.now) s.now }
+    requires met { IsMetBy parent.now.redefined (rules_of x.now.closed.now) s.now }
     ensures { IfOk result (IsFew (form_in x.now) (rules_of x.now.closed.now) s.now) }
 {
     match waiting_by_changes(x, waiting, parent, s)? {

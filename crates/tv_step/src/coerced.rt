@@ -112,8 +112,32 @@ fn is_ended(x: &Setting, ending: Ending, t: &Structure) -> bool
     }
 }
 
-/// The same for the only structure of a list, where nothing was put yet. The list is handed on as it is where
-/// nothing is left to do; else its memory serves again.
+/// The same for the only structure of a list, where nothing was put yet: the list's memory serves again.
+#[inline(never)]
+fn push_taken(
+    x: &Setting,
+    ending: Ending,
+    found: Option<RuleSet>,
+    structures: Structures,
+    scratch: &mut Scratch,
+    out: &mut Structures,
+) -> Result<(), AllocError>
+    requires ready { IsReadyToStep x.now scratch.old }
+    requires shaped { All (IsShaped (form_in x.now)) structures }
+    requires few { All (λ s. IsFew (form_in x.now) (rules_of x.now.closed.now) s found) structures }
+    requires one { length structures ≡ 1 }
+    requires none { length out.old ≡ 0 }
+    ensures out { OnOk result (Adds (AreFrom (Becomes ending (form_in x.now))) structures out.old out.new) }
+    ensures scratch { scratch.new ≡ scratch.old }
+{
+    let (s, mut own) = taken(structures);
+    push_found(x, ending, found, s, scratch, &mut own)?;
+    *out = own;
+    Ok(())
+}
+
+/// The same; the list is handed on as it is where nothing is left to do.
+#[inline(always)]
 fn push_only(
     x: &Setting,
     ending: Ending,
@@ -134,32 +158,57 @@ fn push_only(
         *out = structures;
         return Ok(());
     }
-    let (s, mut own) = taken(structures);
-    push_found(x, ending, found, s, scratch, &mut own)?;
-    *out = own;
-    Ok(())
+    push_taken(x, ending, found, structures, scratch, out)
 }
 
-/// The same for each of the structures that came of a stable one; each goes as soon as it is coerced. Where
-/// no value differs no rule is tried, and where one is over the same individuals and summaries only the rules
-/// about a predicate whose values differ.
-pub fn push_all(
+/// The same for each of the structures that came of a stable one; each goes as soon as it is coerced.
+#[inline(never)]
+fn push_several(
     x: &Setting,
     ending: Ending,
     waiting: &RuleSet,
-    parent: Parent<'_>,
+    parent: &Parent<'_>,
     structures: Structures,
     scratch: &mut Scratch,
     out: &mut Structures,
 ) -> Result<(), AllocError>
     requires ready { IsReadyToStep x.now scratch.old }
-    requires like { IsShaped (form_in x.now) parent.from.now }
-    requires from { IsStableIn (form_in x.now) parent.from.now }
+    requires like { IsShaped (form_in x.now) parent.now.from.now }
+    requires from { IsStableIn (form_in x.now) parent.now.from.now }
     requires shaped { All (IsShaped (form_in x.now)) structures }
-    requires within { All (DiffersWithin parent.reach parent.from.now) structures }
+    requires within { All (DiffersWithin parent.now.reach parent.now.from.now) structures }
     requires count { length waiting.now ≡ length (rules_of x.now.closed.now) }
     requires rest { All (IsStableBut (rules_of x.now.closed.now) waiting.now) structures }
-    requires met { All (IsMetBy parent.redefined (rules_of x.now.closed.now)) structures }
+    requires met { All (IsMetBy parent.now.redefined (rules_of x.now.closed.now)) structures }
+    ensures out { OnOk result (Adds (AreFrom (Becomes ending (form_in x.now))) structures out.old out.new) }
+    ensures scratch { scratch.new ≡ scratch.old }
+{
+    for s in structures.into_vec() {
+        let few = waiting_in(x, waiting, parent, &s)?;
+        push_found(x, ending, few, s, scratch, out)?;
+    }
+    Ok(())
+}
+
+/// The same. Where no value differs no rule is tried, and where a structure is over the same individuals and
+/// summaries only the rules about a predicate whose values differ.
+pub fn push_all(
+    x: &Setting,
+    ending: Ending,
+    waiting: &RuleSet,
+    parent: &Parent<'_>,
+    structures: Structures,
+    scratch: &mut Scratch,
+    out: &mut Structures,
+) -> Result<(), AllocError>
+    requires ready { IsReadyToStep x.now scratch.old }
+    requires like { IsShaped (form_in x.now) parent.now.from.now }
+    requires from { IsStableIn (form_in x.now) parent.now.from.now }
+    requires shaped { All (IsShaped (form_in x.now)) structures }
+    requires within { All (DiffersWithin parent.now.reach parent.now.from.now) structures }
+    requires count { length waiting.now ≡ length (rules_of x.now.closed.now) }
+    requires rest { All (IsStableBut (rules_of x.now.closed.now) waiting.now) structures }
+    requires met { All (IsMetBy parent.now.redefined (rules_of x.now.closed.now)) structures }
     ensures out { OnOk result (Adds (AreFrom (Becomes ending (form_in x.now))) structures out.old out.new) }
     ensures scratch { scratch.new ≡ scratch.old }
 {
@@ -167,9 +216,5 @@ pub fn push_all(
         let found = waiting_in(x, waiting, parent, &structures.as_slice()[0])?;
         return push_only(x, ending, found, structures, scratch, out);
     }
-    for s in structures.into_vec() {
-        let few = waiting_in(x, waiting, parent, &s)?;
-        push_found(x, ending, few, s, scratch, out)?;
-    }
-    Ok(())
+    push_several(x, ending, waiting, parent, structures, scratch, out)
 }

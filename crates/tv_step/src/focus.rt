@@ -1,6 +1,7 @@
 //! Focus in a step: the structures at hand, atom by atom.
 
-ghost use Rattle.std.specs.Prelude.{◌≡◌, ◌≤◌, ◌++◌, [], ◌∷◌, length, map, unwrap_or, All, IfOk, IfErr, OnOk};
+ghost use Rattle.std.specs.Prelude.{◌≡◌, ◌≤◌, ◌++◌, [], ◌∷◌, length, map, unwrap_or, All, IfOk, IfErr};
+ghost use Rattle.std.specs.Prelude.{IsTrue, OnOk};
 ghost use Rattle.tv_focus.specs.Stage.{IsWithinLimits};
 ghost use Rattle.tv_model.specs.declared.program.Program.{Program};
 ghost use Rattle.tv_model.specs.Form.{form_of};
@@ -23,7 +24,7 @@ use std::alloc::AllocError;
 use std::rc::Rc;
 use tv_coerce::RuleSet;
 use tv_eval::Scratch;
-use tv_focus::{FocusAtoms, Focused, into_focused};
+use tv_focus::{FocusAtoms, Focused, into_focused, is_known};
 use tv_focus_walk::{Walk, walk_choices};
 use tv_model::Formula;
 use tv_struct::{StageError, Structure, Structures};
@@ -118,7 +119,7 @@ fn push_focused(
                 x,
                 Ending::Open,
                 &turn.waiting,
-                parent,
+                &parent,
                 choices,
                 scratch,
                 out,
@@ -195,4 +196,48 @@ pub fn at_hand<'a>(found: &'a Option<Structures>, start: &'a [Structure]) -> &'a
         None => start,
         Some(structures) => structures.as_slice(),
     }
+}
+
+/// Whether the atom's values are known in all these structures, so that focus leaves them as they are.
+fn are_known(x: &Setting, turn: &Turn<'_>, at_hand: &[Structure]) -> Result<bool, AllocError>
+    requires place { IsPlace (form_in x.now) (focus_place turn.now) }
+    requires shaped { All (IsShaped (form_in x.now)) at_hand.now }
+    requires stable { All (IsStableIn (form_in x.now)) at_hand.now }
+    ensures out { IfOk result (λ known. IsTrue known
+        → AreFrom (Focuses (form_in x.now) (focus_place turn.now)) at_hand.now at_hand.now) }
+    ensures within { IfOk result (λ known. IsTrue known → KeepsLimits (focus_place turn.now) at_hand.now) }
+{
+    for s in at_hand {
+        if !is_known(x.alloc, &turn.formula, turn.atom, s)? {
+            return Ok(false);
+        }
+    }
+    Ok(true)
+}
+
+/// What is found after the atom, where this was found before it: nothing else, where the atom's values are
+/// known in the structures at hand.
+pub fn after_turn(
+    x: &Setting,
+    turn: &Turn<'_>,
+    found: Option<Structures>,
+    start: &[Structure],
+    scratch: &mut Scratch,
+) -> Result<Option<Structures>, StageError>
+    requires ready { IsReadyToStep x.now scratch.old }
+    requires place { IsPlace (form_in x.now) (focus_place turn.now) }
+    requires waiting { HasWaiting x.now.program.now turn.now }
+    requires shaped { All (IsShaped (form_in x.now)) (unwrap_or found start.now) }
+    requires stable { All (IsStableIn (form_in x.now)) (unwrap_or found start.now) }
+    ensures out { IfOk result (λ after. AreFrom (Focuses (form_in x.now) (focus_place turn.now))
+        (unwrap_or found start.now) (unwrap_or after start.now)) }
+    ensures within { OnOk result (KeepsLimits (focus_place turn.now) (unwrap_or found start.now)) }
+    ensures cause { IfErr result (IsFocusCause (focus_place turn.now) (unwrap_or found start.now)) }
+    ensures scratch { scratch.new ≡ scratch.old }
+{
+    if are_known(x, turn, at_hand(&found, start))? {
+        return Ok(found);
+    }
+    let at_hand = own_at_hand(x, found, start)?;
+    Ok(Some(focus_all(x, turn, at_hand, scratch)?))
 }

@@ -117,7 +117,7 @@ fn push_given(
         x,
         Ending::Blurred,
         &c.job.waiting,
-        parent,
+        &parent,
         given,
         scratch,
         out,

@@ -17,7 +17,7 @@ ghost use Rattle.tv_step.specs.Steps.{IsCauseOfStep, IsCauseOfUpdates};
 ghost use Rattle.tv_step.specs.Steps.{KeepsUpdateLimits, StepsIn};
 ghost use Rattle.tv_step.specs.StepAnswer.{AnswersStep};
 
-use crate::focus::{at_hand, focus_all, own_at_hand};
+use crate::focus::{after_turn, at_hand};
 use crate::job::{Job, edge_at, job_of};
 use crate::messages::{Values, values_of};
 use crate::order::in_order;
@@ -68,8 +68,8 @@ fn given<'a, 'b>(
     Ok(out)
 }
 
-/// The structures at hand after the action's focus, of those to begin with; none where it has no atom, since
-/// these are at hand then.
+/// The structures at hand after the action's focus, of those to begin with; none where the values of its
+/// atoms are known, since these are at hand then.
 pub fn focused(
     x: &Setting,
     job: &Job,
@@ -89,8 +89,7 @@ pub fn focused(
 {
     let mut found = None;
     for turn in job.turns.as_slice() {
-        let at_hand = own_at_hand(x, found, start)?;
-        found = Some(focus_all(x, turn, at_hand, scratch)?);
+        found = after_turn(x, turn, found, start, scratch)?;
     }
     Ok(found)
 }

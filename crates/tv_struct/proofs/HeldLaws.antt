@@ -1,5 +1,6 @@
 -- Tables that are held in one list of words.
-use Rattle.std.proofs.Common.{ℕ, ◌≡◌, ◌≢◌, ◌<◌, ◌≤◌, ◌+◌, ◌*◌, ◌/◌, ◌%◌, ◌^◌, zero, suc, min, true, false}
+use Rattle.std.proofs.Common.{ℕ, ◌≡◌, ◌≢◌, ◌<◌, ◌≤◌, ◌+◌, ◌-◌, ◌*◌, ◌/◌, ◌%◌, ◌^◌, zero, suc, min, true}
+use Rattle.std.proofs.Common.{false}
 use Rattle.std.proofs.Common.{Bool, if◌then◌else◌, ◌==◌, List, [], ◌∷◌, ◌++◌, length, map, get_or, set, take}
 use Rattle.std.proofs.Common.{replicate, refl, sym, ap, subst, add-zero, ◌∙◌, inl, inr, ⊎_elim, ◌⊎◌, arith}
 use Rattle.std.specs.Prelude.{All}
@@ -712,3 +713,87 @@ now_column l words now view h pred lp two column start lc is =
 
     place : (first width u start : ℕ) → start ≡ first * width → start + u * width ≡ (first + u) * width
     place first width u start is = let e : first * width + u * width ≡ (first + u) * width = omega arith in omega (arith, e, is)
+
+-- each individual has its row
+pub now_line : (l : LayoutForm) (words : List (List K3)) (now : TableForm) (view : table_held l words ≡ now) (h : HoldsTable l words)
+    (pred : ℕ) (lp : pred < length now.planes) → (plane_at now pred).arity ≡ 2 → (row : ℕ) → row < now.size
+    → row < length (plane_at now pred).rows
+now_line l words now view h pred lp two row lt =
+    let arity : get_or l.arities pred 0 ≡ 2 = sym (now_arity l words now view h pred lp) ∙ two
+    in let size : now.size ≡ l.size = ap (λ (t : TableForm). t.size) (sym view)
+    in let many : length (plane_at now pred).rows ≡ l.size = now_rows l words now view h pred lp ∙ ap (row_count l.size) arity
+    in omega (arith, many, size, lt)
+
+-- so many rows of a column from one on
+pub now_column_part : (l : LayoutForm) (words : List (List K3)) (now : TableForm) (view : table_held l words ≡ now) (h : HoldsTable l words)
+    (pred : ℕ) (lp : pred < length now.planes) → (plane_at now pred).arity ≡ 2 → (column first rows start : ℕ) → column < now.size
+    → 0 < rows → first + rows ≤ now.size → start ≡ row_place l pred first * words_for l.size
+    → (start + rows * words_for l.size ≤ length words)
+    × ((i : ℕ) → i < rows → value_in words (start + i * words_for l.size) column ≡ get_or (row_in (plane_at now pred) (first + i)) column No)
+now_column_part l words now view h pred lp two column first rows start lc some fit is =
+    let arity : get_or l.arities pred 0 ≡ 2 = sym (now_arity l words now view h pred lp) ∙ two
+    in let size : now.size ≡ l.size = ap (λ (t : TableForm). t.size) (sym view)
+    in let before : ℕ = get_or (starts_from l.size 0 l.arities) pred 0
+    in let width : ℕ = words_for l.size
+    in let end : first + (rows - 1) < length (plane_at now pred).rows
+    = now_line l words now view h pred lp two (first + (rows - 1)) (omega (arith, fit, some))
+    in (
+      behind before width first rows (rows - 1) (length words) start (omega (arith, some)) is (now_room l words now view h pred lp (first + (rows - 1)) end),
+      λ i lt.
+          let lr : first + i < length (plane_at now pred).rows
+          = now_line l words now view h pred lp two (first + i) (omega (arith, fit, lt))
+          in let long : length (row_in (plane_at now pred) (first + i)) ≡ l.size
+          = now_columns l words now view h pred lp (first + i) lr ∙ ap (column_count l.size) arity
+          in (now_cell l words now view h pred lp (first + i) lr column (start + i * width) (omega (arith, long, size, lc))
+          (moved before width first i start is)).1,
+    )
+  where
+    behind : (before width first rows last long start : ℕ) → rows ≡ last + 1 → start ≡ (before + first) * width
+        → (before + (first + last)) * width + width ≤ long → start + rows * width ≤ long
+    behind before width first rows last long start as_many is room =
+        let e : (before + (first + last)) * width + width ≡ (before + first) * width + (last + 1) * width = omega arith
+        in omega (arith, e, ap (λ n. n * width) as_many, room, is)
+
+    moved : (before width first i start : ℕ) → start ≡ (before + first) * width
+        → start + i * width ≡ (before + (first + i)) * width
+    moved before width first i start is =
+        let e : (before + first) * width + i * width ≡ (before + (first + i)) * width = omega arith in omega (arith, e, is)
+
+-- ---- a row of one word is drawn
+
+-- it takes one word
+pub narrow_words : (size arity : ℕ) → 0 < size → size ≤ 64 → (0 < column_count size arity) × (column_count size arity ≤ 64)
+narrow_words size arity some small = at (arity == 0)
+  where
+    at : (b : Bool) → (0 < (if b then 1 else size)) × ((if b then 1 else size) ≤ 64)
+    at true = (omega arith, omega arith)
+    at false = (some, small)
+
+-- and its values have room in it
+pub narrow_cells : (size arity cells long : ℕ) → size ≤ 64 → cells ≡ cells_for size → long ≡ column_count size arity → long ≤ cells
+narrow_cells size arity cells long small room is =
+    ⊎_elim (λ wide. omega (arith, wide, is, columns)) (λ fits. fits) (values_room size arity cells long room is)
+  where
+    columns : column_count size arity ≤ 64
+    columns = at (arity == 0)
+      where
+        at : (b : Bool) → (if b then 1 else size) ≤ 64
+        at true = omega arith
+        at false = small
+
+module _ (l : LayoutForm) (words : List (List K3)) (now : TableForm) (view : table_held l words ≡ now) (h : HoldsTable l words)
+    (pred : ℕ) (lp : pred < length now.planes) (row : ℕ) (lr : row < length (plane_at now pred).rows) (start : ℕ)
+    (is : start ≡ row_place l pred row * words_for l.size) where
+  pub now_placed : start < length words
+  now_placed = omega (arith, is, now_room l words now view h pred lp row lr)
+
+  -- the row is given the values of one word
+  pub now_put_word : (new : List (List K3)) (values : List K3) → 0 < now.size → now.size ≤ 64
+      → length values ≡ column_count now.size (plane_at now pred).arity
+      → ((c : ℕ) → c < 64 → value_in new start c ≡ get_or values c No) → ((p : ℕ) → p ≢ start → word_at new p ≡ word_at words p)
+      → length new ≡ length words → PutsRow l new now pred row values
+  now_put_word new values some small long put others many =
+      let narrow : (0 < length values) × (length values ≤ 64) = rw long (narrow_words now.size (plane_at now pred).arity some small)
+      in now_put l words new now view h pred lp row lr values start long is
+      (λ c lt. put c (omega (arith, lt, narrow.1)))
+      (λ p out. others p (λ e. ⊎_elim (λ before. absurd (omega (arith, e, before))) (λ past. absurd (omega (arith, e, past, narrow.0))) out)) many

@@ -1,13 +1,14 @@
 -- Rows and words in which nothing is possible, and unary predicates that are No everywhere.
 use Rattle.std.proofs.Common.{ℕ, refl, ◌≡◌, ◌≢◌, ◌⊎◌, ◌<◌, ◌≤◌, ◌+◌, ◌∙◌, ◌-◌, ◌*◌, inl, inr, List, [], ◌∷◌}
-use Rattle.std.proofs.Common.{get_or}
+use Rattle.std.proofs.Common.{get_or, ap, cond}
 use Rattle.std.proofs.Common.{length, sym, subst, arith, ⊎_elim}
 use Rattle.std.specs.Prelude.{Any}
-use Rattle.std.proofs.lemmas.Bool.{cases_lt}
+use Rattle.std.proofs.lemmas.Bool.{cases_lt, lt-ltb}
 use Rattle.std.proofs.lemmas.List.{get_or_default, get_or_past}
 use Rattle.tv_kleene.specs.declared.K3.{K3}
 use Rattle.tv_kleene.specs.declared.K3.TheVariants.{No, Half, Yes}
-use Rattle.tv_row.specs.Bits.{greatest_in}
+use Rattle.tv_row.specs.Bits.{greatest_in, padded}
+use Rattle.tv_row.proofs.WordOps.{length-padded, get_or-padded}
 use Rattle.tv_row.proofs.Extremes.{any_possible}
 use Rattle.tv_struct.specs.StructureForm.{StructureForm, value_at}
 
@@ -46,3 +47,18 @@ none_more s p chunk word none long values before u lt in_s = at (cases_lt u (64 
         in let P : ℕ → Type 0 = λ x. value_at s p (x ∷ []) ≡ No
         in subst P place
         (sym (values i inside (omega (arith, place, in_s))) ∙ word_none word i none (omega (arith, inside, long)))
+
+-- a row of which a word with the front values is No
+pub front_none : (row word front : List K3) (size : ℕ) → length row ≡ size → size ≤ 64 → length word ≡ 64 → front ≡ padded size word
+    → greatest_in front ≡ No → ((i : ℕ) → i < 64 → 64 * 0 + i < length row → get_or word i No ≡ get_or row (64 * 0 + i) No)
+    → (u : ℕ) → get_or row u No ≡ No
+front_none row word front size many small long is none values u =
+    ⊎_elim
+    (λ lt.
+    let at : 64 * 0 + u ≡ u = omega arith
+    in let wide : length front ≡ 64 = ap length is ∙ length-padded size word small long
+    in ap (λ i. get_or row i No) (sym at) ∙ sym (values u (omega (arith, lt, small)) (omega (arith, lt, many)))
+    ∙ sym (get_or-padded size word u small long (omega (arith, lt, small)) ∙ ap (λ b. cond b (get_or word u No) No) (lt-ltb u size lt))
+    ∙ ap (λ (w : List K3). get_or w u No) (sym is) ∙ word_none front u none (omega (arith, wide, lt, small)))
+    (λ past. get_or_past row u No (omega (arith, past, many)))
+    (cases_lt u size)

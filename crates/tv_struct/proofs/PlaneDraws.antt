@@ -1,4 +1,7 @@
 -- Tables drawn from others, plane by plane and row by row.
+use Rattle.std.specs.List.{range_with_len}
+use Rattle.std.proofs.Common.{zero-add}
+use Rattle.std.proofs.lemmas.List.FromFn.{length-range_with_len, get_or-range_with_len}
 use Rattle.std.proofs.Common.{ℕ, ◌≡◌, ◌<◌, ◌≤◌, ◌≢◌, ◌+◌, ◌==◌, Bool, true, false, if◌then◌else◌, List, []}
 use Rattle.std.proofs.Common.{◌∷◌, ◌++◌, length, map, get_or, set, take, drop, replicate, ne_eqb, Some, refl}
 use Rattle.std.proofs.Common.{sym, ap, ◌∙◌, zero, suc, arith}
@@ -107,6 +110,16 @@ module _ (source : TableForm) (origins : List ℕ) where
       ∙ get_or-map (plane_of_no (length origins)) (arities_in source.planes) i 0 no_plane (omega (arith, also)))
       ∙ get_or-map (λ plane. plane.arity) source.planes i no_plane 0 lt
 
+  pub planes_blank : (i : ℕ) → i < length source.planes
+      → get_or (planes_so_far source origins i) i no_plane ≡ plane_of_no (length origins) (plane_at source i).arity
+  planes_blank i lt =
+      let many : length (map (plane_drawn origins) source.planes) ≡ length source.planes = length-map source.planes (plane_drawn origins)
+      in let also : length (arities_in source.planes) ≡ length source.planes = length-map source.planes (λ plane. plane.arity)
+      in overwritten_at (map (plane_drawn origins) source.planes) (map (plane_of_no (length origins)) (arities_in source.planes)) i no_plane
+      planes_many (omega (arith, many))
+      ∙ get_or-map (plane_of_no (length origins)) (arities_in source.planes) i 0 no_plane (omega (arith, also))
+      ∙ ap (plane_of_no (length origins)) (get_or-map (λ plane. plane.arity) source.planes i no_plane 0 lt)
+
   pub planes_step : (i : ℕ) → i < length source.planes
       → set (planes_so_far source origins i) i (plane_drawn origins (plane_at source i)) ≡ planes_so_far source origins (i + 1)
   planes_step i lt =
@@ -190,3 +203,39 @@ with_arguments source arity origins ne =
 
 pub columns_as_many : (size arity : ℕ) → arity ≢ 0 → size ≡ column_count size arity
 columns_as_many size arity ne = sym (ap (λ b. if b then 1 else size) (ne_eqb arity 0 ne))
+
+-- the rows of all individuals, in order, are each its own origin
+pub own_origin : (arity n row : ℕ) → row < length (row_origins arity (range_with_len 0 n))
+    → get_or (row_origins arity (range_with_len 0 n)) row 0 ≡ row
+own_origin arity n row lt = at (arity == 2) lt
+  where
+    at : (b : Bool) → row < length (if b then range_with_len 0 n else 0 ∷ []) → get_or (if b then range_with_len 0 n else 0 ∷ []) row 0 ≡ row
+    at true lt = get_or-range_with_len 0 n row 0 (omega (arith, lt, length-range_with_len 0 n)) ∙ zero-add row
+    at false lt = (let first : row ≡ 0 = omega (arith, lt) in ap (λ i. get_or (0 ∷ []) i 0) first ∙ sym first)
+
+-- ---- a predicate of one row that is No everywhere
+
+none_drawn : (values : List K3) → ((u : ℕ) → get_or values u No ≡ No) → (origins : List ℕ)
+    → selected No values origins ≡ replicate (length origins) No
+none_drawn values none [] = refl
+none_drawn values none (o ∷ origins) =
+    ap (λ (k : K3). k ∷ selected No values origins) (none o) ∙ ap (λ (row : List K3). No ∷ row) (none_drawn values none origins)
+
+pub nowhere_drawn : (plane : PlaneForm) (origins : List ℕ) → plane.arity ≢ 2 → ((u : ℕ) → get_or (row_in plane 0) u No ≡ No)
+    → plane_drawn origins plane ≡ plane_of_no (length origins) plane.arity
+nowhere_drawn plane origins flat none = λ i. record { arity = plane.arity; rows = rows i }
+  where
+    columns : ℕ
+    columns = column_count (length origins) plane.arity
+
+    row : selected No (row_in plane 0) (column_origins plane.arity origins) ≡ replicate columns No
+    row =
+        none_drawn (row_in plane 0) none (column_origins plane.arity origins)
+        ∙ ap (λ n. replicate n No) (column_origins-count plane.arity origins)
+
+    rows : (plane_drawn origins plane).rows ≡ (plane_of_no (length origins) plane.arity).rows
+    rows =
+        ap (λ b. map (λ u. selected No (row_in plane u) (column_origins plane.arity origins)) (if b then origins else 0 ∷ []))
+        (ne_eqb plane.arity 2 flat)
+        ∙ ap (λ (values : List K3). values ∷ []) row
+        ∙ sym (ap (λ b. replicate (if b then length origins else 1) (replicate columns No)) (ne_eqb plane.arity 2 flat))

@@ -1,7 +1,7 @@
 -- Rows of tables and of structures.
 use Rattle.std.proofs.Common.{ℕ, ◌≡◌, ◌≢◌, ◌<◌, ◌≤◌, ◌+◌, ◌==◌, ◌⊎◌, inl, inr, List, [], ◌∷◌, ◌++◌, length}
 use Rattle.std.proofs.Common.{get_or, set, map, take, drop, replicate, Option, Some, None, zero, suc, refl}
-use Rattle.std.proofs.Common.{sym, ap, ◌∙◌, arith, if◌then◌else◌}
+use Rattle.std.proofs.Common.{sym, ap, ◌∙◌, arith, if◌then◌else◌, ne_eqb}
 use Rattle.std.specs.Prelude.{slice_get}
 use Rattle.std.specs.List.{range_with_len}
 use Rattle.std.proofs.lemmas.Bool.{cases_eq}
@@ -26,6 +26,14 @@ use Rattle.tv_struct.proofs.StructureLaws.{value_in-fits}
 pub row_long : (t : TableForm) (pred row : ℕ) → IsTable t → pred < length t.planes → row < length (plane_at t pred).rows
     → length (row_in (plane_at t pred) row) ≡ column_count t.size (plane_at t pred).arity
 row_long t pred row is lp lr = (is.planes pred no_plane lp).columns row [] lr
+
+-- a predicate that isn't binary has one row
+pub flat_there : (t : TableForm) (pred : ℕ) → IsTable t → pred < length t.planes → (plane_at t pred).arity ≢ 2
+    → (length (plane_at t pred).rows ≡ 1) × (length (row_in (plane_at t pred) 0) ≡ column_count t.size (plane_at t pred).arity)
+flat_there t pred is lp flat =
+    let rows : length (plane_at t pred).rows ≡ 1
+    = (is.planes pred no_plane lp).rows ∙ ap (λ b. if b then t.size else 1) (ne_eqb (plane_at t pred).arity 2 flat)
+    in (rows, row_long t pred 0 is lp (omega (arith, rows)))
 
 pub IsTable-with_row : (t : TableForm) (pred row : ℕ) (values : List K3) → IsTable t → pred < length t.planes
     → length values ≡ column_count t.size (plane_at t pred).arity → IsTable (table_with_row t pred row values)
@@ -97,6 +105,13 @@ module _ (s : StructureForm) (pred w : ℕ) where
 
   pub column-entry : (u : ℕ) → u < s.size → get_or (column_at s pred w) u No ≡ value_at s pred (u ∷ w ∷ [])
   column-entry u lt = get_or-map-range_with_len (λ u. value_at s pred (u ∷ w ∷ [])) 0 s.size u u No lt (omega arith)
+
+-- and in a row
+pub row-entry : (s : StructureForm) (pred u w : ℕ) → IsStructure s → HasArity s pred 2 → u < s.size → w < s.size
+    → get_or (row_in (plane_at (table_of s) pred) u) w No ≡ value_at s pred (u ∷ w ∷ [])
+row-entry s pred u w is has lu lw =
+    ap (λ line. get_or line w No) (row_at_is s pred u is has lu)
+    ∙ get_or-map-range_with_len (λ x. value_at s pred (u ∷ x ∷ [])) 0 s.size w w No lw (omega arith)
 
 -- ---- a row is written
 

@@ -1,7 +1,8 @@
 //! Flags of individuals, kept as a row of truth values none of which is certain.
 
 ghost use Rattle.std.specs.Prelude.{◌≡◌, ◌<◌, ◌≤◌, false, length, map, replicate, if◌then◌else◌};
-ghost use Rattle.std.specs.Prelude.{slice_index_or, slice_set};
+ghost use Rattle.std.specs.Prelude.{slice_index_or, slice_set, ◌+◌};
+ghost use Rattle.std.specs.List.{range_with_len};
 ghost use Rattle.std.specs.Cmp.Lexicographic.{slice_cmp};
 ghost use Rattle.std.specs.Ordering.{bool_cmp};
 ghost use Rattle.tv_kleene.specs.declared.K3.TheVariants.{No, Half};
@@ -88,6 +89,16 @@ impl Summaries {
         }
     }
 
+    /// The same flags, and one more that is false.
+    pub fn extended(&self) -> Summaries
+        requires { length self.now < 256 }
+        ensures { result ≡ selected false self.now (range_with_len 0 (length self.now + 1)) }
+    {
+        Summaries {
+            row: self.row.extended(),
+        }
+    }
+
     /// Of each individual `Half` where its flag is true, else `No`.
     pub fn as_row(&self) -> Row
         ensures { result ≡ map flag_value self.now }
@@ -100,6 +111,6 @@ impl Summaries {
         requires { length self.now ≡ length other.now }
         ensures { result ≡ slice_cmp bool_cmp self.now other.now }
     {
-        self.row.as_row().compare(&other.row.as_row())
+        self.row.compare(&other.row)
     }
 }

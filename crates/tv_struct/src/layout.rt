@@ -125,6 +125,17 @@ impl Layout {
         })
     }
 
+    /// An equal layout; takes no memory.
+    pub fn copied(&self) -> Result<Layout, AllocError>
+        ensures { IfOk result (λ l. l ≡ self.now) }
+    {
+        Ok(Layout {
+            size: self.size,
+            width: self.width,
+            places: self.places.clone()?,
+        })
+    }
+
     /// Whether the sizes and the arities are equal.
     pub fn agrees(&self, other: &Layout) -> bool
         ensures { IsTrue result → self.now ≡ other.now }

@@ -1,12 +1,14 @@
 //! A table in planes of bits: one list of words for the values of all predicates.
 
 ghost use Rattle.std.specs.Prelude.{ℕ, ◌≡◌, ◌<◌, ◌≤◌, ◌+◌, ◌*◌, length, map, fold, All, IfOk, Some};
+ghost use Rattle.std.specs.List.{range_with_len};
 ghost use Rattle.std.specs.Prelude.{slice_get};
 ghost use Rattle.std.specs.Prelude.{slice_index_or, slice_set};
 ghost use Rattle.tv_struct.specs.LayoutForm.{IsLayout};
 ghost use Rattle.tv_struct.specs.TableForm.{TableForm, IsTable, table_of_no, table_with_row, plane_at};
 ghost use Rattle.tv_struct.specs.TableForm.{row_in, column_in, row_of, column_of, arities_in, row_count};
-ghost use Rattle.tv_struct.specs.TableForm.{column_count, selected};
+ghost use Rattle.tv_struct.specs.TableForm.{column_count, selected, plane_drawn, plane_of_no};
+ghost use Rattle.std.specs.Prelude.{List, IsTrue};
 ghost use Rattle.tv_kleene.specs.declared.K3.TheVariants.{No};
 ghost use Rattle.tv_row.specs.Mixed.{word_mixed};
 ghost use Rattle.tv_struct.specs.Order.{planes_cmp};
@@ -127,6 +129,26 @@ impl Planes {
         self.words.front(start + chunk as usize)
     }
 
+    /// True only where the predicate `p` is unary and `No` at each individual, so that what is drawn from it
+    /// is.
+    pub fn is_nowhere(&self, p: PredId) -> bool
+        requires { p.0 < length self.now.planes }
+        ensures { IsTrue result → (origins : List ℕ) → plane_drawn origins (plane_at self.now p.0)
+            ≡ plane_of_no (length origins) (plane_at self.now p.0).arity }
+    {
+        let size = self.size();
+        let arity = self.arity(p);
+        if arity == 2 || size == 0 || size > 64 {
+            return false;
+        }
+        let columns = column_count(size, arity);
+        let word = self.word(p, 0, 0);
+        match word.first(columns).greatest() {
+            K3::No => true,
+            _ => false,
+        }
+    }
+
     /// The values in a row of the predicate `p`.
     #[inline(always)]
     pub fn row(&self, p: PredId, row: u32) -> Row
@@ -154,6 +176,26 @@ impl Planes {
             .column(self.layout.width(), start, size, column as usize)
     }
 
+    /// The values in a column of the binary predicate `p`, in the rows from `64 * chunk` on, at most 64. What
+    /// stands behind the last row isn't told.
+    pub fn column_word(&self, p: PredId, column: u32, chunk: u32) -> Word
+        requires predicate { p.0 < length self.now.planes }
+        requires arity { (plane_at self.now p.0).arity ≡ 2 }
+        requires column { column < self.now.size }
+        requires chunk { 64 * chunk < self.now.size }
+        ensures long { length result ≡ 64 }
+        ensures values { (i : ℕ) → i < 64 → 64 * chunk + i < self.now.size
+            → slice_index_or result i No
+            ≡ slice_index_or (row_in (plane_at self.now p.0) (64 * chunk + i)) column No }
+    {
+        let size = self.layout.size();
+        let first = 64 * chunk;
+        let rows = (size - first).min(64);
+        let start = self.layout.start(p.0 as usize, first as usize);
+        self.words
+            .column_word(self.layout.width(), start, rows, column as usize)
+    }
+
     /// Puts the values into a row of the predicate `p`, and changes nothing else.
     pub fn put_row(&mut self, p: PredId, row: u32, values: &Row)
         requires predicate { p.0 < length self.old.planes }
@@ -179,6 +221,49 @@ impl Planes {
         self.words.put(start, column as usize, k);
     }
 
+    /// Draws a row of the predicate `p` from a row that it has in another table, where each is one word, and
+    /// changes nothing else.
+    fn draw_word(&mut self, p: PredId, row: u32, source: &Planes, from: u32, drawing: &Drawing)
+        requires predicate { p.0 < length self.old.planes }
+        requires row { row < length (plane_at self.old p.0).rows }
+        requires source { p.0 < length source.now.planes }
+        requires from { from < length (plane_at source.now p.0).rows }
+        requires size { length drawing.now.origins
+            ≡ column_count self.old.size (plane_at self.old p.0).arity }
+        requires columns { drawing.now.columns
+            ≡ column_count source.now.size (plane_at source.now p.0).arity }
+        requires narrow { (0 < self.old.size) × (self.old.size ≤ 64) }
+        requires narrow_source { source.now.size ≤ 64 }
+        ensures value { self.new ≡ table_with_row self.old p.0 row
+            (selected No (row_in (plane_at source.now p.0) from) drawing.now.origins) }
+        ensures kept { IsTable self.new }
+    {
+        let place = self.layout.start(p.0 as usize, row as usize);
+        let origin = source.layout.start(p.0 as usize, from as usize);
+        self.words.draw(place, &source.words, origin, drawing);
+    }
+
+    /// Draws a row of the predicate `p` from a row that it has in another table of one individual less, where
+    /// each is one word, and changes nothing else.
+    pub fn extend_word(&mut self, p: PredId, row: u32, source: &Planes, from: u32)
+        requires predicate { p.0 < length self.old.planes }
+        requires row { row < length (plane_at self.old p.0).rows }
+        requires source { p.0 < length source.now.planes }
+        requires from { from < length (plane_at source.now p.0).rows }
+        requires size { source.now.size + 1 ≡ column_count self.old.size (plane_at self.old p.0).arity }
+        requires columns { source.now.size ≡ column_count source.now.size (plane_at source.now p.0).arity }
+        requires narrow { (0 < self.old.size) × (self.old.size ≤ 64) }
+        requires narrow_source { source.now.size ≤ 64 }
+        ensures value { self.new ≡ table_with_row self.old p.0 row
+            (selected No (row_in (plane_at source.now p.0) from) (range_with_len 0 (source.now.size + 1))) }
+        ensures kept { IsTable self.new }
+    {
+        let size = source.size();
+        let place = self.layout.start(p.0 as usize, row as usize);
+        let origin = source.layout.start(p.0 as usize, from as usize);
+        self.words.extend(place, &source.words, origin, size);
+    }
+
     /// Draws a row of the predicate `p` from a row that it has in another table, in words, and changes
     /// nothing else.
     pub fn draw_words(&mut self, p: PredId, row: u32, source: &Planes, from: u32, drawing: &Drawing)
@@ -194,8 +279,13 @@ impl Planes {
             (selected No (row_in (plane_at source.now p.0) from) drawing.now.origins) }
         ensures kept { IsTable self.new }
     {
-        let values = source.row(p, from).drawn(drawing);
-        self.put_row(p, row, &values);
+        let size = self.size();
+        if 0 < size && size <= 64 && source.size() <= 64 {
+            self.draw_word(p, row, source, from, drawing);
+        } else {
+            let values = source.row(p, from).drawn(drawing);
+            self.put_row(p, row, &values);
+        }
     }
 
     /// An equal table in memory of its own.
@@ -204,7 +294,7 @@ impl Planes {
         ensures kept { IfOk result IsTable }
     {
         Ok(Planes {
-            layout: self.layout.resized(self.layout.size())?,
+            layout: self.layout.copied()?,
             words: self.words.copied(alloc)?,
         })
     }

@@ -194,8 +194,7 @@ impl Structure {
         ensures values { (i : ℕ) → i < 64 → 64 * chunk + i < self.now.size
             → slice_index_or result i No ≡ value_at self.now p.0 ((64 * chunk + i) ∷ w ∷ []) }
     {
-        let _ = self.size();
-        self.column(p, w).word(chunk)
+        self.table.column_word(p, w, chunk)
     }
 
     /// Puts the values into the unary predicate `p`, individual by individual, and changes no other
@@ -291,6 +290,9 @@ impl Structure {
         ensures kept { IfOk result IsStructure }
     {
         let size = self.size();
+        if size < 64 {
+            return self.extended(alloc);
+        }
         let origins = origins::all_and_next(alloc, size)?;
         self.drawn(alloc, origins, Some(size))
     }
@@ -343,6 +345,22 @@ impl Structure {
             table: self.table.drawn(alloc, &drawing)?,
             summaries: self.summaries.drawn(&drawing),
             fresh,
+        })
+    }
+
+    /// The same, where each row is one word.
+    fn extended(&self, alloc: Global) -> Result<Structure, AllocError>
+        requires size { self.now.size < 64 }
+        requires mark { IsMark (with_new self.now) (Some self.now.size) }
+        ensures value { IfOk result (λ s. s ≡ with_new self.now) }
+        ensures over { IfOk result (λ s. arities_of s ≡ arities_of self.now) }
+        ensures kept { IfOk result IsStructure }
+    {
+        let size = self.size();
+        Ok(Structure {
+            table: self.table.extended(alloc)?,
+            summaries: self.summaries.extended(),
+            fresh: Some(size),
         })
     }
 

@@ -1,14 +1,23 @@
 -- The lines of predicates whose values are read off by rows.
-use Rattle.std.proofs.Common.{ℕ, ◌≡◌, ◌<◌, List, [], ◌∷◌, ap, ◌∙◌, sym, arith}
-use Rattle.std.specs.Prelude.{codes}
+use Rattle.std.proofs.Common.{ℕ, ◌≡◌, ◌<◌, List, [], ◌∷◌, ap, ◌∙◌, sym, arith, length}
+use Rattle.std.specs.Prelude.{codes, slice_index_or}
 use Rattle.std.proofs.lemmas.List.FromFn.{length-map-range_with_len, get_or-map-range_with_len}
 use Rattle.tv_kleene.specs.declared.K3.{K3}
 use Rattle.tv_kleene.specs.declared.K3.TheVariants.{No}
 use Rattle.tv_struct.specs.StructureForm.{StructureForm, value_at}
-use Rattle.tv_struct.specs.StructureRows.{unary_row, summary_row}
+use Rattle.tv_struct.specs.StructureRows.{unary_row, row_at, summary_row}
 use Rattle.tv_tvs.specs.Canonical.{content_of, if_some, line_text, summaries_text, summary_value}
 use Rattle.tv_tvs.specs.Rows.{single_items}
 use Rattle.tv_tvs.proofs.RowTexts.{no_singles, single_items_of}
+
+-- the values of a row of pairs
+pub pair_value : (s : StructureForm) (p u w : ℕ) → w < s.size
+    → slice_index_or (row_at s p u) w No ≡ value_at s p (u ∷ w ∷ [])
+pair_value s p u w lt =
+    get_or-map-range_with_len (λ v. value_at s p (u ∷ v ∷ [])) 0 s.size w w No (omega (arith, lt)) (omega arith)
+
+pub row_length : (s : StructureForm) (p u : ℕ) → length (row_at s p u) ≡ s.size
+row_length s p u = length-map-range_with_len (λ w. value_at s p (u ∷ w ∷ [])) 0 s.size
 
 -- the line of a unary predicate
 pub unary_line : (s : StructureForm) (p arity : ℕ) (text name : List ℕ) (row : List K3) → text ≡ name → arity ≡ 1

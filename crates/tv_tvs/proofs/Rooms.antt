@@ -4,6 +4,7 @@ use Rattle.std.proofs.Common.{◌<◌, [], ◌∷◌, suc, get_or}
 use Rattle.std.proofs.lemmas.List.{take-take}
 use Rattle.std.proofs.lemmas.List.FromFn.{get_or-map-range_with_len}
 use Rattle.tv_tvs.specs.Canonical.{individual, individuals}
+use Rattle.tv_tvs.specs.Rows.{pair_prefix, pair_prefixes}
 
 take_past : (xs ys : List ℕ) (n : ℕ) → take (length xs + n) (xs ++ ys) ≡ xs ++ take n ys
 take_past [] ys n = let e : 0 + n ≡ n = omega arith in ap (λ k. take k ys) e
@@ -24,6 +25,12 @@ pub name_at : (names : List (List ℕ)) (u : ℕ) (d : List ℕ) → names ≡ i
     → get_or names u d ≡ individual u
 name_at names u d all few =
     ap (λ ns. get_or ns u d) all ∙ get_or-map-range_with_len individual 0 256 u u d (omega (arith, few)) (omega arith)
+
+-- the prefixes of pairs
+pub prefix_there : (prefixes : List (List ℕ)) (u : ℕ) (d : List ℕ) → prefixes ≡ pair_prefixes → u < 256
+    → get_or prefixes u d ≡ pair_prefix u
+prefix_there prefixes u d all few =
+    ap (λ ns. get_or ns u d) all ∙ get_or-map-range_with_len pair_prefix 0 256 u u d (omega (arith, few)) (omega arith)
 
 -- three texts in an empty line
 pub three : (l0 l1 l2 l3 a b c x y z : List ℕ) → l0 ≡ [] → a ≡ x → l1 ≡ l0 ++ a → b ≡ y → l2 ≡ l1 ++ b → c ≡ z → l3 ≡ l2 ++ c

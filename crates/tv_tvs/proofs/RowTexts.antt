@@ -47,6 +47,47 @@ pub one_further : {X : Type 0} (f : ℕ → List X) (from u : ℕ) (text : List 
 one_further f from u text le none so_far =
     turn f [] text 0 u u (omega arith) (none_until f from u text le none so_far)
 
+-- the same behind other texts
+pub none_behind : {X : Type 0} (f : ℕ → List X) (before : List X) (from end : ℕ) (text : List X) → from ≤ end
+    → ((c : ℕ) → from ≤ c → c < end → f c ≡ []) → text ≡ before ++ flat_map f (range_with_len 0 from)
+    → text ≡ before ++ flat_map f (range_with_len 0 end)
+none_behind f before from end text le none so_far =
+    so_far ∙ ap (λ t. before ++ t) (none_until f from end (flat_map f (range_with_len 0 from)) le none refl)
+
+pub one_behind : {X : Type 0} (f : ℕ → List X) (before : List X) (from u : ℕ) (text : List X) → from ≤ u
+    → ((c : ℕ) → from ≤ c → c < u → f c ≡ []) → text ≡ before ++ flat_map f (range_with_len 0 from)
+    → text ++ f u ≡ before ++ flat_map f (range_with_len 0 (u + 1))
+one_behind f before from u text le none so_far =
+    ap (λ t. t ++ f u) so_far ∙ append_assoc before (flat_map f (range_with_len 0 from)) (f u)
+    ∙ ap (λ t. before ++ t) (one_further f from u (flat_map f (range_with_len 0 from)) le none refl)
+
+-- what is written of a word stands behind what is of those before it
+word_further : {X : Type 0} (f g : ℕ → List X) (base n : ℕ) → ((i : ℕ) → i < n → g i ≡ f (base + i))
+    → flat_map f (range_with_len 0 base) ++ flat_map g (range_with_len 0 n) ≡ flat_map f (range_with_len 0 (base + n))
+word_further f g base zero same =
+    let e : base ≡ base + 0 = omega arith in append-nil _ ∙ ap (λ m. flat_map f (range_with_len 0 m)) e
+word_further f g base (suc n) same =
+    let e : suc n ≡ n + 1 = omega arith
+    in let e2 : base + n + 1 ≡ base + suc n = omega arith
+    in ap (λ m. flat_map f (range_with_len 0 base) ++ flat_map g (range_with_len 0 m)) e
+    ∙ ap (λ t. flat_map f (range_with_len 0 base) ++ t) (sym (turn g [] (flat_map g (range_with_len 0 n)) 0 n n (omega arith) refl))
+    ∙ sym (append_assoc (flat_map f (range_with_len 0 base)) (flat_map g (range_with_len 0 n)) (g n))
+    ∙ ap (λ t. t ++ g n) (word_further f g base n (λ i less. same i (omega (arith, less))))
+    ∙ ap (λ t. flat_map f (range_with_len 0 (base + n)) ++ t) (same n (omega arith))
+    ∙ turn f [] (flat_map f (range_with_len 0 (base + n))) 0 (base + n) (base + n) (omega arith) refl
+    ∙ ap (λ m. flat_map f (range_with_len 0 m)) e2
+
+pub word_behind : (prefix : List ℕ) (values word : List K3) (first count end : ℕ) (before text : List ℕ) → first + count ≡ end
+    → ((i : ℕ) → i < count → slice_index_or word i No ≡ slice_index_or values (first + i) No)
+    → before ≡ flat_map (λ u. behind prefix u (slice_index_or values u No)) (range_with_len 0 first)
+    → text ≡ before ++ flat_map (λ i. behind prefix (first + i) (slice_index_or word i No)) (range_with_len 0 count)
+    → text ≡ flat_map (λ u. behind prefix u (slice_index_or values u No)) (range_with_len 0 end)
+word_behind prefix values word first count end before text at same so_far put =
+    put ∙ ap (λ t. t ++ flat_map (λ i. behind prefix (first + i) (slice_index_or word i No)) (range_with_len 0 count)) so_far
+    ∙ word_further (λ u. behind prefix u (slice_index_or values u No)) (λ i. behind prefix (first + i) (slice_index_or word i No)) first count
+    (λ i less. ap (behind prefix (first + i)) (same i less))
+    ∙ ap (λ m. flat_map (λ u. behind prefix u (slice_index_or values u No)) (range_with_len 0 m)) at
+
 -- ---- the texts of items
 
 single_text : (u : ℕ) (k : K3) → more_texts (map item_text (written_one u None k)) ≡ behind comma u k

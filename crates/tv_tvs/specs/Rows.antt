@@ -31,6 +31,9 @@ comma = codes ", "
 abbrev pub pair_prefix : ℕ → List ℕ
 pair_prefix u = comma ++ (individual u ++ codes "->")
 
+abbrev pub pair_prefixes : List (List ℕ)
+pair_prefixes = map pair_prefix (range_with_len 0 256)
+
 -- the items of a unary predicate with these values, and of the pairs that begin with an individual
 abbrev pub single_items : List K3 → List ItemTree
 single_items values =

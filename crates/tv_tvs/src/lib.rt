@@ -2,6 +2,7 @@
 #![tactic(auto)]
 
 mod build;
+mod draft;
 mod error;
 mod laws;
 mod line;

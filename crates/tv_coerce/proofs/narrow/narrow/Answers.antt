@@ -1,8 +1,7 @@
 -- One variable more.
-use Rattle.std.proofs.Common.{◌≡◌, ◌≤◌, ◌∙◌, ℕ, List, ap, arith, length, refl, replicate, subst, sym}
+use Rattle.std.proofs.Common.{◌≡◌, ◌≤◌, ◌∙◌, arith, length, replicate, subst, sym}
 use Rattle.std.proofs.lemmas.List.{get_or-replicate, length-replicate, length-set}
 use Rattle.std.proofs.lemmas.Option.{get_or_from_slice_get, slice_get_within}
-use Rattle.tv_kleene.specs.declared.K3.{K3}
 use Rattle.tv_kleene.specs.declared.K3.TheVariants.{Yes}
 use Rattle.tv_coerce_members.specs.Members.{numbers_of}
 use Rattle.tv_coerce.specs.Counting.{IsNarrowed, members_in, variables_in}

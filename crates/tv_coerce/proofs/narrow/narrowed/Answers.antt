@@ -1,11 +1,10 @@
 -- What one variable more leaves.
-use Rattle.std.proofs.Common.{◌≡◌, ◌<◌, ◌∙◌, ℕ, ap, arith, get_or, length, subst, sym, true, false}
-use Rattle.std.specs.Prelude.{slice_get}
+use Rattle.std.proofs.Common.{◌<◌, ◌∙◌, ap, arith, get_or, length, subst, sym, true, false}
 use Rattle.tv_kleene.specs.declared.K3.TheVariants.{No, Yes}
 use Rattle.tv_kleene.specs.Kleene.{smaller_of}
 use Rattle.tv_row.proofs.WordOps.{get_or-paired, length-paired}
 use Rattle.tv_coerce_members.specs.Members.{AreSteps}
-use Rattle.tv_coerce.specs.Counting.{IsLater, Tells, counted, members_in, variables_in}
+use Rattle.tv_coerce.specs.Counting.{IsLater, Tells, counted, members_in}
 use Rattle.tv_coerce.proofs.Narrowing.{IsBehind, all-places, last-of, last-steps, last-told, later-told}
 use Rattle.tv_coerce.proofs.Narrowing.{own-steps, own-told}
 use Rattle.tv_coerce.proofs.Narrowing.{seen-last, seen-own, split, split-of, split-read, split-variable}

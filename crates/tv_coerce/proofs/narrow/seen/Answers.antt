@@ -1,7 +1,6 @@
 -- By whether it rests on the variable.
 use Rattle.std.proofs.Common.{arith, refl, subst, sym}
-use Rattle.tv_kleene.specs.declared.K3.TheVariants.{No, Yes}
-use Rattle.tv_kleene.specs.declared.K3.{K3}
+use Rattle.tv_kleene.specs.declared.K3.TheVariants.{Yes}
 use Rattle.tv_eval_laws.specs.Value.{value}
 use Rattle.tv_struct.specs.StructureForm.{structure_of}
 use Rattle.std.proofs.Common.{◌≢◌}

@@ -1,4 +1,5 @@
-use Rattle.std.proofs.Common.{◌≡◌, ◌≢◌, ◌≤◌, ◌+◌, ◌-◌, ◌*◌, ◌∙◌, [], ◌∷◌, ◌++◌, length, take, drop, get_or}
+use Rattle.std.proofs.Common.{ℕ, ◌≡◌, ◌≢◌, ◌<◌, ◌≤◌, ◌+◌, ◌-◌, ◌*◌, ◌∙◌, [], ◌∷◌, ◌++◌, length, take, drop}
+use Rattle.std.proofs.Common.{get_or}
 use Rattle.std.proofs.Common.{refl, sym, ap, subst}
 use Rattle.std.proofs.Common.{arith, min, true, false}
 use Rattle.std.specs.Prelude.{IfOk, Some, slice_get}
@@ -20,8 +21,8 @@ use Rattle.tv_coerce.specs.declared.trial.Outcome.TheVariants.{Possible}
 use Rattle.tv_coerce.proofs.Placing.{kin-free, kin-variable, left-free, left-on, level-last, level-own}
 use Rattle.tv_coerce.proofs.Placing.{level-there, own-kin, read-last}
 use Rattle.tv_coerce.proofs.Placing.{read-own, rule-variable}
-use Rattle.tv_coerce.proofs.Walking.{all-word, can-try-kin, counted-with, differ-on, kept-more, none-at}
-use Rattle.tv_coerce.proofs.Opening.{open-passed, reads-rows}
+use Rattle.tv_coerce.proofs.Walking.{all-word, can-try-kin, differ-on, kept-more, none-at}
+use Rattle.tv_coerce.proofs.Opening.{open-passed}
 use Rattle.tv_coerce.proofs.Walking.{none-left, own-half}
 use Rattle.tv_coerce.proofs.Walking.{put-kept, put-placed, split-vars, start-kept, stays-on, tail-shorter}
 use Rattle.tv_coerce.proofs.Walking.{told-both, told-never, told-so, told-some}
@@ -210,36 +211,37 @@ walk_chunk-counted_all-own-requires-clause-long t c =
     (all-word c.args.trial.now.structure.now.size c.args.chunk c.places.result Yes c.of-all.result
     (c.places.ensures.value ∙ ap (λ n. min 64 (n - 64 * c.args.chunk)) c.size.ensures.size) c.requires.chunk c.of-all.ensures).long
 
-pub walk_chunk-opened-ways-requires : goal.walk_chunk-opened-ways-requires
-walk_chunk-opened-ways-requires t c =
+pub walk_chunk-going_on-alive-requires : goal.walk_chunk-going_on-alive-requires
+walk_chunk-going_on-alive-requires t c =
     let trial = c.args.trial.now
-    in let is = c.requires.trial
-    in let s = trial.structure.now
-    in let ms = members_in trial
     in let rest = numbers_of c.args.rest.now
-    in let k = c.args.chunk
     in let on = left-on trial c.args.v.0 rest c.requires.walk.left
     in let found = subst (λ n. slice_get trial.shape.now.levels n ≡ Some c.level_of-level.result.now)
     (sym (length-map c.args.rest.now (λ (x : Var). x.0))) c.level_of-level.ensures
-    in let own = c.counted_all-own.ensures.counted (length rest) false (subst (AreSteps ms (length rest) false) (sym c.as_slice.ensures)
-    (level-own trial is rest on c.level_of-level.result.now found))
-    in let all = all-word s.size k c.places.result Yes c.of-all.result
-    (c.places.ensures.value ∙ ap (λ n. min 64 (n - 64 * k)) c.size.ensures.size) c.requires.chunk c.of-all.ensures
-    in let steps = subst (AreSteps ms (length rest) true) (sym c.as_slice-steps.ensures)
-    (level-last trial is rest on c.level_of-level.result.now found)
     in record {
-      last = c.requires.walk.chunk;
-      reads = reads-rows trial is (bound_room c.args.evaluator.now)
-          (can-try-kin trial _ trial.number (own-kin trial is) c.requires.ready) rest on c.as_slice-steps.result.now steps;
-      long = (own.long, c.requires.walk.long);
-      within = λ i low some. all.within i low (own.some i low some);
+      long = (c.counted_all-own.ensures.counted (length rest) false (subst (AreSteps (members_in trial) (length rest) false)
+          (sym c.as_slice.ensures) (level-own trial c.requires.trial rest on c.level_of-level.result.now found))).long;
+      words = λ word found. (c.requires.walk.narrowed (length c.args.rest.now) word found).1;
     }
 
-pub walk_chunk-going_on-alive-requires : goal.walk_chunk-going_on-alive-requires
-walk_chunk-going_on-alive-requires t c = record {
-  long = c.opened-ways.ensures.long;
-  words = λ word found. (c.requires.walk.narrowed (length c.args.rest.now) word found).1;
-}
+pub walk_chunk-begun_with-begun-requires-clause-some : goal.walk_chunk-begun_with-begun-requires-clause-some
+walk_chunk-begun_with-begun-requires-clause-some t c = c.going_on-alive.ensures.some c.in-Some.i c.in-Some.ensures.1 c.in-Some.ensures.2
+
+pub walk_chunk-begun_with-begun-requires-clause-long : goal.walk_chunk-begun_with-begun-requires-clause-long
+walk_chunk-begun_with-begun-requires-clause-long t c =
+    let trial = c.args.trial.now
+    in let rest = numbers_of c.args.rest.now
+    in let on = left-on trial c.args.v.0 rest c.requires.walk.left
+    in let found = subst (λ n. slice_get trial.shape.now.levels n ≡ Some c.level_of-level.result.now)
+    (sym (length-map c.args.rest.now (λ (x : Var). x.0))) c.level_of-level.ensures
+    in (
+      c.requires.walk.long,
+      (c.counted_all-own.ensures.counted (length rest) false (subst (AreSteps (members_in trial) (length rest) false)
+          (sym c.as_slice.ensures) (level-own trial c.requires.trial rest on c.level_of-level.result.now found))).long,
+    )
+
+pub walk_chunk-begun_with-begun-requires-clause-halved : goal.walk_chunk-begun_with-begun-requires-clause-halved
+walk_chunk-begun_with-begun-requires-clause-halved t c = c.counted-halved.ensures ∙ ap (paired counted c.args.tail) c.of.ensures
 
 pub walk_chunk-set-requires : goal.walk_chunk-set-requires
 walk_chunk-set-requires t c =
@@ -250,13 +252,12 @@ walk_chunk-set-requires t c =
     (can-try-kin trial _ trial.number (own-kin trial is) c.requires.ready).over c.args.v.0
     (left-free trial is (c.args.v.0 ∷ rest) c.requires.walk.left c.args.v.0 (0, omega arith, refl))
 
-pub walk_chunk-counted_all-word-requires-clause-long : goal.walk_chunk-counted_all-word-requires-clause-long
-walk_chunk-counted_all-word-requires-clause-long t c =
-    (counted-with c.args.tail c.get.result c.counted-begun.result c.requires.walk.long
-    (c.counted-begun.ensures ∙ ap (paired counted c.args.tail) c.of.ensures)).0
+pub walk_chunk-counted_by_row-word-requires-clause-long : goal.walk_chunk-counted_by_row-word-requires-clause-long
+walk_chunk-counted_by_row-word-requires-clause-long t c =
+    c.begun_with-begun.ensures.long
 
-pub walk_chunk-counted_all-word-requires-clause-can : goal.walk_chunk-counted_all-word-requires-clause-can
-walk_chunk-counted_all-word-requires-clause-can t c =
+pub walk_chunk-counted_by_row-word-requires-clause-can : goal.walk_chunk-counted_by_row-word-requires-clause-can
+walk_chunk-counted_by_row-word-requires-clause-can t c =
     let trial = c.args.trial.now
     in let is = c.requires.trial
     in let s = trial.structure.now
@@ -268,7 +269,7 @@ walk_chunk-counted_all-word-requires-clause-can t c =
     in let w = trial.last.0
     in let first = 64 * k
     in let a = c.args.a.now
-    in let going = subst (λ n. IsGoingOn trial.later.now n c.args.tail c.opened-ways.result c.going_on-alive.result)
+    in let going = subst (λ n. IsGoingOn trial.later.now n c.args.tail c.counted_all-own.result c.going_on-alive.result)
     (sym (length-map c.args.rest.now (λ (x : Var). x.0))) c.going_on-alive.ensures
     in let on = left-on trial v rest c.requires.walk.left
     in let found = subst (λ n. slice_get trial.shape.now.levels n ≡ Some c.level_of-level.result.now)
@@ -281,8 +282,7 @@ walk_chunk-counted_all-word-requires-clause-can t c =
     in let steps = subst (AreSteps ms (length rest) true) (sym c.as_slice-steps.ensures)
     (level-last trial is rest on c.level_of-level.result.now found)
     in let opens = going.some i c.in-Some.ensures.1 c.in-Some.ensures.2
-    in let is-own = c.opened-ways.ensures.kept i c.in-Some.ensures.1 opens
-    in let within = all.within i c.in-Some.ensures.1 (own.some i c.in-Some.ensures.1 (λ e. opens (is-own ∙ e)))
+    in let within = all.within i c.in-Some.ensures.1 (own.some i c.in-Some.ensures.1 opens)
     in let is-put = put-kept v (rest ++ w ∷ []) (first + i) a c.loop-i.a c.set.new.self c.loop-i.invariant.1 c.set.ensures.places
     in read-last trial is (bound_room c.loop-i.evaluator)
     (can-try-kin trial _ trial.number (own-kin trial is)
@@ -303,7 +303,7 @@ walk_chunk-walk-requires t c =
     in let w = trial.last.0
     in let first = 64 * k
     in let a = c.args.a.now
-    in let going = subst (λ n. IsGoingOn trial.later.now n c.args.tail c.opened-ways.result c.going_on-alive.result)
+    in let going = subst (λ n. IsGoingOn trial.later.now n c.args.tail c.counted_all-own.result c.going_on-alive.result)
     (sym (length-map c.args.rest.now (λ (x : Var). x.0))) c.going_on-alive.ensures
     in let on = left-on trial v rest c.requires.walk.left
     in let found = subst (λ n. slice_get trial.shape.now.levels n ≡ Some c.level_of-level.result.now)
@@ -317,21 +317,21 @@ walk_chunk-walk-requires t c =
     in let steps = subst (AreSteps ms (length rest) true) (sym c.as_slice-steps.ensures)
     (level-last trial is rest on c.level_of-level.result.now found)
     in let opens = going.some i c.in-Some.ensures.1 c.in-Some.ensures.2
-    in let is-own = c.opened-ways.ensures.kept i c.in-Some.ensures.1 opens
-    in let there : get_or c.counted_all-own.result i No ≢ No = λ e. opens (is-own ∙ e)
+    in let there : get_or c.counted_all-own.result i No ≢ No = opens
     in let some = own.some i c.in-Some.ensures.1 there
     in let within = all.within i c.in-Some.ensures.1 some
     in let is-put = put-kept v (rest ++ w ∷ []) (first + i) a c.loop-i.a placed c.loop-i.invariant.1 c.set.ensures.places
-    in let value-here = c.get.ensures
-    in let with-own = counted-with c.args.tail c.get.result c.counted-begun.result c.requires.walk.long
-    (c.counted-begun.ensures ∙ ap (paired counted c.args.tail) c.of.ensures)
-    in let start = walk-on trial is v rest a placed c.args.tail c.counted-begun.result c.counted_all-word.result (first + i) c.get.result
-    c.requires.walk within is-put (λ e. there (sym value-here ∙ e))
-    (λ e. own-half s a v k ms (length rest) c.of-all.result c.counted_all-own.result all own i c.in-Some.ensures.1 within (sym value-here ∙ e))
-    with-own (c.counted_all-word.ensures.counted (length rest) true steps)
-    in let stays = stays-on s c.args.evaluator.now c.loop-i.evaluator c.counted_all-word.new.evaluator c.loop-i.invariant.0 c.counted_all-word.ensures.stays
-    in let passed = open-passed trial is v rest a c.args.tail c.as_slice-steps.result.now c.requires.walk steps k c.of-all.result
-    c.counted_all-own.result c.opened-ways.result c.going_on-alive.result all own c.opened-ways.ensures going c.requires.chunk c.loop-i.from i (omega (arith, c.in-Some.ensures.1))
+    in let with-own : (length c.begun_with-begun.result ≡ 64)
+    × ((j : ℕ) → j < 64 → get_or c.begun_with-begun.result j No ≡ counted (get_or c.args.tail j No) (get_or c.counted_all-own.result i No))
+    = (c.begun_with-begun.ensures.long, c.begun_with-begun.ensures.each)
+    in let start = walk-on trial is v rest a placed c.args.tail c.begun_with-begun.result c.counted_by_row-word.result (first + i)
+    (get_or c.counted_all-own.result i No)
+    c.requires.walk within is-put there
+    (λ e. own-half s a v k ms (length rest) c.of-all.result c.counted_all-own.result all own i c.in-Some.ensures.1 within e)
+    with-own (c.counted_by_row-word.ensures.counted (length rest) true steps)
+    in let stays = stays-on s c.args.evaluator.now c.loop-i.evaluator c.counted_by_row-word.new.evaluator c.loop-i.invariant.0 c.counted_by_row-word.ensures.stays
+    in let passed = open-passed trial is v rest a c.args.tail c.requires.walk k c.of-all.result
+    c.counted_all-own.result c.going_on-alive.result all own going c.requires.chunk c.loop-i.from i (omega (arith, c.in-Some.ensures.1))
     c.in-Some.ensures.3
     in (
       omega (arith, c.decreases),
@@ -412,7 +412,7 @@ walk_chunk-loop-i-preserved-else-has_more t c =
     in let w = trial.last.0
     in let first = 64 * k
     in let a = c.args.a.now
-    in let going = subst (λ n. IsGoingOn trial.later.now n c.args.tail c.opened-ways.result c.going_on-alive.result)
+    in let going = subst (λ n. IsGoingOn trial.later.now n c.args.tail c.counted_all-own.result c.going_on-alive.result)
     (sym (length-map c.args.rest.now (λ (x : Var). x.0))) c.going_on-alive.ensures
     in let on = left-on trial v rest c.requires.walk.left
     in let found = subst (λ n. slice_get trial.shape.now.levels n ≡ Some c.level_of-level.result.now)
@@ -426,26 +426,26 @@ walk_chunk-loop-i-preserved-else-has_more t c =
     in let steps = subst (AreSteps ms (length rest) true) (sym c.as_slice-steps.ensures)
     (level-last trial is rest on c.level_of-level.result.now found)
     in let opens = going.some i c.in-Some.ensures.1 c.in-Some.ensures.2
-    in let is-own = c.opened-ways.ensures.kept i c.in-Some.ensures.1 opens
-    in let there : get_or c.counted_all-own.result i No ≢ No = λ e. opens (is-own ∙ e)
+    in let there : get_or c.counted_all-own.result i No ≢ No = opens
     in let some = own.some i c.in-Some.ensures.1 there
     in let within = all.within i c.in-Some.ensures.1 some
     in let is-put = put-kept v (rest ++ w ∷ []) (first + i) a c.loop-i.a placed c.loop-i.invariant.1 c.set.ensures.places
-    in let value-here = c.get.ensures
-    in let with-own = counted-with c.args.tail c.get.result c.counted-begun.result c.requires.walk.long
-    (c.counted-begun.ensures ∙ ap (paired counted c.args.tail) c.of.ensures)
-    in let start = walk-on trial is v rest a placed c.args.tail c.counted-begun.result c.counted_all-word.result (first + i) c.get.result
-    c.requires.walk within is-put (λ e. there (sym value-here ∙ e))
-    (λ e. own-half s a v k ms (length rest) c.of-all.result c.counted_all-own.result all own i c.in-Some.ensures.1 within (sym value-here ∙ e))
-    with-own (c.counted_all-word.ensures.counted (length rest) true steps)
-    in let stays = stays-on s c.args.evaluator.now c.loop-i.evaluator c.counted_all-word.new.evaluator c.loop-i.invariant.0 c.counted_all-word.ensures.stays
-    in let passed = open-passed trial is v rest a c.args.tail c.as_slice-steps.result.now c.requires.walk steps k c.of-all.result
-    c.counted_all-own.result c.opened-ways.result c.going_on-alive.result all own c.opened-ways.ensures going c.requires.chunk c.loop-i.from i (omega (arith, c.in-Some.ensures.1))
+    in let with-own : (length c.begun_with-begun.result ≡ 64)
+    × ((j : ℕ) → j < 64 → get_or c.begun_with-begun.result j No ≡ counted (get_or c.args.tail j No) (get_or c.counted_all-own.result i No))
+    = (c.begun_with-begun.ensures.long, c.begun_with-begun.ensures.each)
+    in let start = walk-on trial is v rest a placed c.args.tail c.begun_with-begun.result c.counted_by_row-word.result (first + i)
+    (get_or c.counted_all-own.result i No)
+    c.requires.walk within is-put there
+    (λ e. own-half s a v k ms (length rest) c.of-all.result c.counted_all-own.result all own i c.in-Some.ensures.1 within e)
+    with-own (c.counted_by_row-word.ensures.counted (length rest) true steps)
+    in let stays = stays-on s c.args.evaluator.now c.loop-i.evaluator c.counted_by_row-word.new.evaluator c.loop-i.invariant.0 c.counted_by_row-word.ensures.stays
+    in let passed = open-passed trial is v rest a c.args.tail c.requires.walk k c.of-all.result
+    c.counted_all-own.result c.going_on-alive.result all own going c.requires.chunk c.loop-i.from i (omega (arith, c.in-Some.ensures.1))
     c.in-Some.ensures.3
     in let told = subst (IsTold trial (AreTriedFor trial (GoesOnIn trial (rest ++ w ∷ []) (assignment_of placed))) c.loop-i.noted c.walk.new.noted)
     c.in-Possible.is c.in_ok-walk.ensures.told
     in (
-      stays-on s c.args.evaluator.now c.counted_all-word.new.evaluator c.walk.new.evaluator stays c.in_ok-walk.ensures.stays,
+      stays-on s c.args.evaluator.now c.counted_by_row-word.new.evaluator c.walk.new.evaluator stays c.in_ok-walk.ensures.stays,
       kept-more v (rest ++ w ∷ []) (first + i) a c.loop-i.a placed c.walk.new.a c.loop-i.invariant.1 c.set.ensures.places
           c.in_ok-walk.ensures.keeps,
       omega (arith, c.in-Some.ensures.1),
@@ -472,7 +472,7 @@ walk_chunk-loop-i-preserved t c =
     in let w = trial.last.0
     in let first = 64 * k
     in let a = c.args.a.now
-    in let going = subst (λ n. IsGoingOn trial.later.now n c.args.tail c.opened-ways.result c.going_on-alive.result)
+    in let going = subst (λ n. IsGoingOn trial.later.now n c.args.tail c.counted_all-own.result c.going_on-alive.result)
     (sym (length-map c.args.rest.now (λ (x : Var). x.0))) c.going_on-alive.ensures
     in let on = left-on trial v rest c.requires.walk.left
     in let found = subst (λ n. slice_get trial.shape.now.levels n ≡ Some c.level_of-level.result.now)
@@ -486,21 +486,21 @@ walk_chunk-loop-i-preserved t c =
     in let steps = subst (AreSteps ms (length rest) true) (sym c.as_slice-steps.ensures)
     (level-last trial is rest on c.level_of-level.result.now found)
     in let opens = going.some i c.in-Some.ensures.1 c.in-Some.ensures.2
-    in let is-own = c.opened-ways.ensures.kept i c.in-Some.ensures.1 opens
-    in let there : get_or c.counted_all-own.result i No ≢ No = λ e. opens (is-own ∙ e)
+    in let there : get_or c.counted_all-own.result i No ≢ No = opens
     in let some = own.some i c.in-Some.ensures.1 there
     in let within = all.within i c.in-Some.ensures.1 some
     in let is-put = put-kept v (rest ++ w ∷ []) (first + i) a c.loop-i.a placed c.loop-i.invariant.1 c.set.ensures.places
-    in let value-here = c.get.ensures
-    in let with-own = counted-with c.args.tail c.get.result c.counted-begun.result c.requires.walk.long
-    (c.counted-begun.ensures ∙ ap (paired counted c.args.tail) c.of.ensures)
-    in let start = walk-on trial is v rest a placed c.args.tail c.counted-begun.result c.counted_all-word.result (first + i) c.get.result
-    c.requires.walk within is-put (λ e. there (sym value-here ∙ e))
-    (λ e. own-half s a v k ms (length rest) c.of-all.result c.counted_all-own.result all own i c.in-Some.ensures.1 within (sym value-here ∙ e))
-    with-own (c.counted_all-word.ensures.counted (length rest) true steps)
-    in let stays = stays-on s c.args.evaluator.now c.loop-i.evaluator c.counted_all-word.new.evaluator c.loop-i.invariant.0 c.counted_all-word.ensures.stays
-    in let passed = open-passed trial is v rest a c.args.tail c.as_slice-steps.result.now c.requires.walk steps k c.of-all.result
-    c.counted_all-own.result c.opened-ways.result c.going_on-alive.result all own c.opened-ways.ensures going c.requires.chunk c.loop-i.from i (omega (arith, c.in-Some.ensures.1))
+    in let with-own : (length c.begun_with-begun.result ≡ 64)
+    × ((j : ℕ) → j < 64 → get_or c.begun_with-begun.result j No ≡ counted (get_or c.args.tail j No) (get_or c.counted_all-own.result i No))
+    = (c.begun_with-begun.ensures.long, c.begun_with-begun.ensures.each)
+    in let start = walk-on trial is v rest a placed c.args.tail c.begun_with-begun.result c.counted_by_row-word.result (first + i)
+    (get_or c.counted_all-own.result i No)
+    c.requires.walk within is-put there
+    (λ e. own-half s a v k ms (length rest) c.of-all.result c.counted_all-own.result all own i c.in-Some.ensures.1 within e)
+    with-own (c.counted_by_row-word.ensures.counted (length rest) true steps)
+    in let stays = stays-on s c.args.evaluator.now c.loop-i.evaluator c.counted_by_row-word.new.evaluator c.loop-i.invariant.0 c.counted_by_row-word.ensures.stays
+    in let passed = open-passed trial is v rest a c.args.tail c.requires.walk k c.of-all.result
+    c.counted_all-own.result c.going_on-alive.result all own going c.requires.chunk c.loop-i.from i (omega (arith, c.in-Some.ensures.1))
     c.in-Some.ensures.3
     in (
       stays,
@@ -514,7 +514,7 @@ walk_chunk-loop-i-preserved t c =
           (λ so_far tried n kin. tried-next s (rule_at trial.closed.now n) vars (kin-variable trial is n kin) v (rest ++ w ∷ []) w trial.chunk first
           c.loop-i.from i a placed c.loop-i.a c.loop-i.invariant.1 c.set.ensures.places (passed n kin) (so_far n kin) (tried n kin))
           (told-tried trial (AreTriedFor trial (GoesOnIn trial (rest ++ w ∷ []) (assignment_of placed))) c.loop-i.noted
-          (none-left trial is rest placed c.counted_all-word.result start
+          (none-left trial is rest placed c.counted_by_row-word.result start
           (subst (λ x. x ≡ No) c.greatest.ensures c.if-not-is_no.ensures))),
     )
 
@@ -531,7 +531,7 @@ walk_chunk-returns-clause-told t c =
     in let w = trial.last.0
     in let first = 64 * k
     in let a = c.args.a.now
-    in let going = subst (λ n. IsGoingOn trial.later.now n c.args.tail c.opened-ways.result c.going_on-alive.result)
+    in let going = subst (λ n. IsGoingOn trial.later.now n c.args.tail c.counted_all-own.result c.going_on-alive.result)
     (sym (length-map c.args.rest.now (λ (x : Var). x.0))) c.going_on-alive.ensures
     in let on = left-on trial v rest c.requires.walk.left
     in let found = subst (λ n. slice_get trial.shape.now.levels n ≡ Some c.level_of-level.result.now)
@@ -542,8 +542,8 @@ walk_chunk-returns-clause-told t c =
     (c.places.ensures.value ∙ ap (λ n. min 64 (n - 64 * k)) c.size.ensures.size) c.requires.chunk c.of-all.ensures
     in let steps = subst (AreSteps ms (length rest) true) (sym c.as_slice-steps.ensures)
     (level-last trial is rest on c.level_of-level.result.now found)
-    in let passed = open-passed trial is v rest a c.args.tail c.as_slice-steps.result.now c.requires.walk steps k c.of-all.result
-    c.counted_all-own.result c.opened-ways.result c.going_on-alive.result all own c.opened-ways.ensures going c.requires.chunk c.loop-i.from 64 (omega arith) c.in_default.ensures
+    in let passed = open-passed trial is v rest a c.args.tail c.requires.walk k c.of-all.result
+    c.counted_all-own.result c.going_on-alive.result all own going c.requires.chunk c.loop-i.from 64 (omega arith) c.in_default.ensures
     in told-both trial
     (AreTriedFor trial (λ b. GoesOnIn trial (v ∷ rest ++ w ∷ []) (assignment_of a) b × IsBetween v first (first + c.loop-i.from) b))
     (AreTriedFor trial (λ b. GoesOnIn trial (v ∷ rest ++ w ∷ []) (assignment_of a) b × IsBetween v (first + c.loop-i.from) (first + 64) b))

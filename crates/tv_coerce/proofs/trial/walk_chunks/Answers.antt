@@ -1,20 +1,17 @@
 use Rattle.std.proofs.Common.{◌*◌, ◌+◌, [], ◌∷◌, length, arith, refl, subst, sym, false}
 use Rattle.std.specs.Prelude.{Contains}
-use Rattle.std.proofs.lemmas.List.{length-map}
 use Rattle.std.proofs.lemmas.List.Elements.{Contains-append_right}
-use Rattle.tv_model.specs.declared.formula.Var.{Var}
-use Rattle.tv_coerce_members.specs.Members.{AreSteps, numbers_of}
+use Rattle.tv_coerce_members.specs.Members.{numbers_of}
 use Rattle.tv_eval.specs.AssignmentForm.{assignment_of}
-use Rattle.tv_eval.specs.Bound.{bound_room}
 use Rattle.tv_rules.specs.EntryForms.{rules_of}
-use Rattle.tv_coerce.specs.Counting.{CountTells, IsAt, IsIdle, Lacks, members_in}
+use Rattle.tv_coerce.specs.Counting.{members_in}
 use Rattle.tv_coerce.specs.Ready.{CanCoerce}
 use Rattle.tv_coerce.specs.Trying.{IsTold, rule_at}
 use Rattle.tv_coerce.specs.Walks.{AreTriedFor, IsAny, IsBetween, IsInChunk}
 use Rattle.tv_coerce.specs.declared.trial.Outcome.TheVariants.{Possible}
-use Rattle.tv_coerce.proofs.Placing.{kin-free, kin-variable, own-kin, own-none, own-tried, test-free}
-use Rattle.tv_coerce.proofs.Walking.{can-try-kin, idle-everywhere, of-chunk, stays-on, tells-agreed}
-use Rattle.tv_coerce.proofs.Walking.{told-both, told-of, told-so, told-tried, tried-last}
+use Rattle.tv_coerce.proofs.Placing.{kin-free, kin-variable, own-none, own-tried}
+use Rattle.tv_coerce.proofs.Walking.{of-chunk, stays-on, tells-agreed}
+use Rattle.tv_coerce.proofs.Walking.{told-both, told-of, told-so, tried-last}
 use Rattle.tv_coerce.proofs.Walking.{tried-whole}
 use Rattle.tv_coerce.proofs.trial.walk_chunks.Goals as goal
 

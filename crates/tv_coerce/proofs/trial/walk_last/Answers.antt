@@ -15,8 +15,8 @@ use Rattle.tv_coerce.proofs.Walking.{all-word, can-try-kin, first-tried, none-le
 use Rattle.tv_coerce.proofs.Walking.{told-tried}
 use Rattle.tv_coerce.proofs.trial.walk_last.Goals as goal
 
-pub counted_all-tail-requires-clause-can : goal.counted_all-tail-requires-clause-can
-counted_all-tail-requires-clause-can c =
+pub counted_alone-tail-requires-clause-can : goal.counted_alone-tail-requires-clause-can
+counted_alone-tail-requires-clause-can c =
     let trial = c.args.trial.now
     in let is = c.requires.trial
     in let before = numbers_of c.args.before.now
@@ -28,8 +28,8 @@ counted_all-tail-requires-clause-can c =
     c.as_slice-steps.result.now ([], c.requires.variables)
     (λ x free none. absurd (none (subst (λ xs. Contains xs x) c.requires.variables (kin-variable trial is trial.number (own-kin trial is) x free)))) steps
 
-pub counted_all-tail-requires-clause-long : goal.counted_all-tail-requires-clause-long
-counted_all-tail-requires-clause-long c =
+pub counted_alone-tail-requires-clause-long : goal.counted_alone-tail-requires-clause-long
+counted_alone-tail-requires-clause-long c =
     (all-word c.args.trial.now.structure.now.size c.args.trial.now.chunk c.places.result c.args.own c.of-all.result
     (c.places.ensures.value ∙ ap (λ n. min 64 (n - 64 * c.args.trial.now.chunk)) c.size.ensures.size) c.requires.chunk c.of-all.ensures).long
 
@@ -46,11 +46,11 @@ walk-requires-clause-walk c =
     (level-last trial is before ([], c.requires.variables) c.level_of-level.result.now found)
     in let all = all-word trial.structure.now.size trial.chunk c.places.result c.args.own c.of-all.result
     (c.places.ensures.value ∙ ap (λ n. min 64 (n - 64 * trial.chunk)) c.size.ensures.size) c.requires.chunk c.of-all.ensures
-    in start-first trial is before c.args.a.now c.args.own c.of-all.result c.counted_all-tail.result c.requires.variables c.requires.chunk
+    in start-first trial is before c.args.a.now c.args.own c.of-all.result c.counted_alone-tail.result c.requires.variables c.requires.chunk
     c.requires.narrowed c.requires.some
     (λ e. subst (CountTells (Lacks (IsAt (length before) false) trial.structure.now a ms) (IsIdle (IsAt (length before) false) trial.structure.now a ms)) e
     c.requires.own)
-    all (c.counted_all-tail.ensures.counted (length before) true steps)
+    all (c.counted_alone-tail.ensures.counted (length before) true steps)
 
 pub returns-then-is_no-clause-told : goal.returns-then-is_no-clause-told
 returns-then-is_no-clause-told c =
@@ -65,14 +65,14 @@ returns-then-is_no-clause-told c =
     (level-last trial is before ([], c.requires.variables) c.level_of-level.result.now found)
     in let all = all-word trial.structure.now.size trial.chunk c.places.result c.args.own c.of-all.result
     (c.places.ensures.value ∙ ap (λ n. min 64 (n - 64 * trial.chunk)) c.size.ensures.size) c.requires.chunk c.of-all.ensures
-    in let start = start-first trial is before c.args.a.now c.args.own c.of-all.result c.counted_all-tail.result c.requires.variables c.requires.chunk
+    in let start = start-first trial is before c.args.a.now c.args.own c.of-all.result c.counted_alone-tail.result c.requires.variables c.requires.chunk
     c.requires.narrowed c.requires.some
     (λ e. subst (CountTells (Lacks (IsAt (length before) false) trial.structure.now a ms) (IsIdle (IsAt (length before) false) trial.structure.now a ms)) e
     c.requires.own)
-    all (c.counted_all-tail.ensures.counted (length before) true steps)
+    all (c.counted_alone-tail.ensures.counted (length before) true steps)
     in told-tried trial (AreTriedFor trial (IsInChunk trial.last.0 trial.chunk)) c.args.noted.now
     (first-tried trial before a c.requires.variables
-    (none-left trial is before c.args.a.now c.counted_all-tail.result start
+    (none-left trial is before c.args.a.now c.counted_alone-tail.result start
     (subst (λ x. x ≡ No) c.greatest.ensures c.if-is_no.ensures)))
 
 pub returns-clause-told : goal.returns-clause-told

@@ -1,18 +1,12 @@
-use Rattle.std.proofs.Common.{◌*◌, ◌+◌, [], ◌∷◌, length, arith, refl, subst, sym, false}
-use Rattle.std.specs.Prelude.{Contains}
+use Rattle.std.proofs.Common.{length, arith, subst, sym, false}
 use Rattle.std.proofs.lemmas.List.{length-map}
-use Rattle.std.proofs.lemmas.List.Elements.{Contains-append_right}
 use Rattle.tv_model.specs.declared.formula.Var.{Var}
 use Rattle.tv_coerce_members.specs.Members.{AreSteps, numbers_of}
 use Rattle.tv_eval.specs.AssignmentForm.{assignment_of}
 use Rattle.tv_eval.specs.Bound.{bound_room}
-use Rattle.tv_rules.specs.EntryForms.{rules_of}
 use Rattle.tv_coerce.specs.Counting.{CountTells, IsAt, IsIdle, Lacks, members_in}
-use Rattle.tv_coerce.specs.Ready.{CanCoerce}
-use Rattle.tv_coerce.specs.Trying.{IsTold, rule_at}
-use Rattle.tv_coerce.specs.Walks.{AreTriedFor, IsAny, IsBetween, IsInChunk}
-use Rattle.tv_coerce.specs.declared.trial.Outcome.TheVariants.{Possible}
-use Rattle.tv_coerce.proofs.Placing.{kin-free, kin-variable, own-kin, own-none, own-tried, test-free}
+use Rattle.tv_coerce.specs.Walks.{AreTriedFor, IsAny}
+use Rattle.tv_coerce.proofs.Placing.{own-kin, own-none, test-free}
 use Rattle.tv_coerce.proofs.Walking.{can-try-kin, idle-everywhere}
 use Rattle.tv_coerce.proofs.Walking.{told-tried}
 use Rattle.tv_coerce.proofs.trial.walk_some.Goals as goal
@@ -26,8 +20,8 @@ count-own-requires-clause-can c =
     in test-free trial is (bound_room c.args.evaluator.now) (can-try-kin trial _ trial.number (own-kin trial is) c.requires.ready) left false
     c.args.a.now c.as_slice.result.now
     (subst (AreSteps (members_in trial) left false) (sym c.as_slice.ensures)
-    ((is.laid.levels before c.args.last.0 c.requires.variables).each left c.level_of-level.result.now c.level_of-level.ensures).0)
-    (λ k m there at-left apart. own-none trial is before c.args.last.0 c.requires.variables k m there
+    ((is.laid.levels before c.args.trial.now.last.0 c.requires.variables).each left c.level_of-level.result.now c.level_of-level.ensures).0)
+    (λ k m there at-left apart. own-none trial is before c.args.trial.now.last.0 c.requires.variables k m there
     (omega (arith, at-left, length-map c.args.before.now (λ (x : Var). x.0))) apart)
 
 pub returns-then-is_no-clause-told : goal.returns-then-is_no-clause-told
@@ -39,11 +33,11 @@ returns-then-is_no-clause-told c =
     in let before = numbers_of c.args.before.now
     in let left = length c.args.before.now
     in let tells = c.count-own.ensures.tells left false (subst (AreSteps ms left false) (sym c.as_slice.ensures)
-    ((is.laid.levels before c.args.last.0 c.requires.variables).each left c.level_of-level.result.now c.level_of-level.ensures).0)
+    ((is.laid.levels before c.args.trial.now.last.0 c.requires.variables).each left c.level_of-level.result.now c.level_of-level.ensures).0)
     in told-tried trial (AreTriedFor trial IsAny) c.args.noted.now
     (idle-everywhere trial is a (IsAt left false)
     (subst (CountTells (Lacks (IsAt left false) trial.structure.now a ms) (IsIdle (IsAt left false) trial.structure.now a ms)) c.if-is_no.ensures tells)
-    (λ k m there those. own-none trial is before c.args.last.0 c.requires.variables k m there
+    (λ k m there those. own-none trial is before c.args.trial.now.last.0 c.requires.variables k m there
     (omega (arith, those.0, length-map c.args.before.now (λ (x : Var). x.0))) those.1))
 
 -- the members without variables count the same
@@ -55,7 +49,7 @@ walk_chunks-requires-clause-own c =
     in let left = length c.args.before.now
     in let same = length-map c.args.before.now (λ (x : Var). x.0)
     in let tells = c.count-own.ensures.tells left false (subst (AreSteps ms left false) (sym c.as_slice.ensures)
-    ((is.laid.levels (numbers_of c.args.before.now) c.args.last.0 c.requires.variables).each left c.level_of-level.result.now c.level_of-level.ensures).0)
+    ((is.laid.levels (numbers_of c.args.before.now) c.args.trial.now.last.0 c.requires.variables).each left c.level_of-level.result.now c.level_of-level.ensures).0)
     in subst (λ n. CountTells (Lacks (IsAt n false) trial.structure.now (assignment_of c.args.a.now) ms)
     (IsIdle (IsAt n false) trial.structure.now (assignment_of c.args.a.now) ms) c.count-own.result) (sym same) tells
 
@@ -67,6 +61,6 @@ walk_narrowed-requires-clause-own c =
     in let left = length c.args.before.now
     in let same = length-map c.args.before.now (λ (x : Var). x.0)
     in let tells = c.count-own.ensures.tells left false (subst (AreSteps ms left false) (sym c.as_slice.ensures)
-    ((is.laid.levels (numbers_of c.args.before.now) c.args.last.0 c.requires.variables).each left c.level_of-level.result.now c.level_of-level.ensures).0)
+    ((is.laid.levels (numbers_of c.args.before.now) c.args.trial.now.last.0 c.requires.variables).each left c.level_of-level.result.now c.level_of-level.ensures).0)
     in subst (λ n. CountTells (Lacks (IsAt n false) trial.structure.now (assignment_of c.args.a.now) ms)
     (IsIdle (IsAt n false) trial.structure.now (assignment_of c.args.a.now) ms) c.count-own.result) (sym same) tells

@@ -7,11 +7,11 @@ pub loop-chunk-preserved : goal.loop-chunk-preserved
 loop-chunk-preserved c =
     next-told c.args.s.now.size c.loop-chunk.chunk c.places-n.result (λ u. value_at c.args.s.now c.args.p.0 (u ∷ []))
     (λ u. value_at c.args.t.now c.args.p.0 (u ∷ [])) c.unary_word.result c.unary_word-in-loop-chunk.result
-    c.loop-chunk.turned c.turned_word-here.result c.or-turned.result
+    c.loop-chunk.turned c.with_word-turned.result c.with_word-turned.result
     (c.places-n.ensures.value ∙ ap (λ m. min 64 (m - 64 * c.loop-chunk.chunk)) c.size-in-loop-chunk.ensures.size)
     c.unary_word.ensures.values
     (λ i lt within. c.unary_word-in-loop-chunk.ensures.values i lt (omega (arith, within, c.requires.size)))
-    c.turned_word-here.ensures c.or-turned.ensures.here c.or-turned.ensures.there c.loop-chunk.invariant
+    c.with_word-turned.ensures.here c.with_word-turned.ensures.there (λ x y told. told) c.loop-chunk.invariant
 
 pub returns : goal.returns
 returns c =

@@ -17,15 +17,15 @@ returns-then-y-v c =
     (sym (put_same (assignment_of c.args.a.now) c.args.v.0 u c.args.y.0 c.if-y-v.true)))
 
 pub returns-then-x-v : goal.returns-then-x-v
-returns-then-x-v c = record {
-  long = c.column_word.ensures.long;
-  each = λ i low within.
-      let u : ℕ = 64 * c.args.chunk + i
-      in c.column_word.ensures.values i low within
-      ∙ atom_two c.args.s.now (assignment_of c.args.a.now) c.args.pred.0 c.args.x.0 c.args.y.0 c.args.v.0 u u c.at.result
-      (sym (put_same (assignment_of c.args.a.now) c.args.v.0 u c.args.x.0 c.if-x-v.true))
-      (c.at.ensures ∙ sym (put_other (assignment_of c.args.a.now) c.args.v.0 u c.args.y.0 c.if-y-v.false));
-}
+returns-then-x-v c =
+    same-word c.args.s.now.size c.args.chunk (λ u. value_at c.args.s.now c.args.pred.0 (u ∷ c.at.result ∷ []))
+    (λ u. value_at c.args.s.now c.args.pred.0 (put (assignment_of c.args.a.now) c.args.v.0 u c.args.x.0
+    ∷ put (assignment_of c.args.a.now) c.args.v.0 u c.args.y.0 ∷ []))
+    c.column.result c.column.ensures
+    (λ u lt. atom_two c.args.s.now (assignment_of c.args.a.now) c.args.pred.0 c.args.x.0 c.args.y.0 c.args.v.0 u u
+    c.at.result
+    (sym (put_same (assignment_of c.args.a.now) c.args.v.0 u c.args.x.0 c.if-x-v.true))
+    (c.at.ensures ∙ sym (put_other (assignment_of c.args.a.now) c.args.v.0 u c.args.y.0 c.if-y-v.false)))
 
 pub returns-then-y-v-2 : goal.returns-then-y-v-2
 returns-then-y-v-2 c = record {

@@ -9,7 +9,7 @@ use Rattle.tv_kleene.specs.declared.K3.{K3}
 use Rattle.tv_kleene.specs.declared.K3.TheVariants.{No, Yes}
 use Rattle.tv_kleene.specs.Kleene.{smaller_of, larger_of, negation_of}
 use Rattle.tv_model.specs.Form.{Form, FExists, FClosure, form_of, height}
-use Rattle.tv_model.specs.Truth.{put}
+use Rattle.tv_model.specs.Truth.{Assignment, put}
 use Rattle.tv_row.specs.Places.{entry_in}
 use Rattle.tv_struct.specs.StructureForm.{arities_of, structure_of}
 use Rattle.tv_eval_laws.specs.Value.{value, greatest_of, best_walk}
@@ -23,7 +23,8 @@ use Rattle.tv_quantifiers.specs.Quantified.{quantified, turned}
 use Rattle.tv_quantifiers.specs.declared.quantifier.Quantifier.TheVariants.{Exists}
 use Rattle.tv_quantifiers.specs.Rows.{IsSquare, part_at}
 use Rattle.tv_quantifiers.specs.declared.relation.Part.TheVariants.{From, To, Diagonal}
-use Rattle.tv_eval.proofs.AlongLaws.{rows_put, put_same, put_other, put_steady, puts_commute, closure_at}
+use Rattle.tv_eval.proofs.AlongLaws.{atom_two, rows_put, put_same, put_other, put_steady, puts_commute}
+use Rattle.tv_eval.proofs.AlongLaws.{closure_at}
 use Rattle.tv_eval.proofs.AlongWords.{JoinedTo, same-word, of-paired, of-mapped, mapped-word}
 use Rattle.tv_eval.proofs.AlongWords.{both-none, none-both, either-all, all-either}
 use Rattle.tv_eval.proofs.AlongWords.{then-all, then-none}
@@ -57,16 +58,16 @@ use Rattle.tv_quantifiers.specs.Chains.{AreLinked, best, is_taken, least_part, p
 use Rattle.tv_quantifiers.specs.Runs.{AreFresh}
 use Rattle.tv_eval.proofs.values.+values.Goals as goal
 
-pub value_of-returns-in-Exists-clause-exact : goal.value_of-returns-in-Exists-clause-exact
-value_of-returns-in-Exists-clause-exact t c =
+pub value_by_parts-returns-in-Exists-clause-exact : goal.value_by_parts-returns-in-Exists-clause-exact
+value_by_parts-returns-in-Exists-clause-exact t c =
     rw (c.in-Exists.is, ← c.deref-in-Exists.ensures) c.quantify.ensures.exact
 
-pub value_of-returns-in-Forall-clause-exact : goal.value_of-returns-in-Forall-clause-exact
-value_of-returns-in-Forall-clause-exact t c =
+pub value_by_parts-returns-in-Forall-clause-exact : goal.value_by_parts-returns-in-Forall-clause-exact
+value_by_parts-returns-in-Forall-clause-exact t c =
     rw (c.in-Forall.is, ← c.deref-in-Forall.ensures) c.quantify-in-Forall.ensures.exact
 
-pub value_of-returns-in-Closure-clause-exact : goal.value_of-returns-in-Closure-clause-exact
-value_of-returns-in-Closure-clause-exact t c =
+pub value_by_parts-returns-in-Closure-clause-exact : goal.value_by_parts-returns-in-Closure-clause-exact
+value_by_parts-returns-in-Closure-clause-exact t c =
     rw (c.in-Closure.is, ← c.deref-in-Closure.ensures) c.closure.ensures.exact
 
 pub closure-returns-clause-exact : goal.closure-returns-clause-exact
@@ -84,6 +85,22 @@ closure-returns-clause-exact t c =
     ))
     ∙ ap (λ x. edge x c.at-to.result) c.at.ensures
     ∙ ap (edge (assignment_of c.args.a.now c.args.from.0)) c.at-to.ensures
+
+pub fill-put_rows-requires-clause-arity : goal.fill-put_rows-requires-clause-arity
+fill-put_rows-requires-clause-arity t c =
+    (subst (IsFormulaOver (arities_of c.args.s.now)) c.in-Some.ensures.0 c.requires.body.formula.1.1).0
+
+pub fill-returns-in-Some-clause-edges : goal.fill-returns-in-Some-clause-edges
+fill-returns-in-Some-clause-edges t c = λ u w lu lw.
+    let a : Assignment = assignment_of c.args.a.now
+    in let left : ℕ = c.args.edges.left.0
+    in let right : ℕ = c.args.edges.right.0
+    in subst (λ k. entry_in c.put_rows.new.relation u w
+    ≡ value (structure_of c.args.s.now) (put (put a left u) right w) k) (sym c.in-Some.ensures.0)
+    (c.put_rows.ensures.edges u w lu lw
+    ∙ atom_two c.args.s.now (put a left u) c.in-Some.pred.0 left right right w u w
+    (sym (put_other (put a left u) right w left c.in-Some.ensures.1 ∙ put_same a left u left refl))
+    (sym (put_same (put a left u) right w right refl)))
 
 pub fill-loop-u-init : goal.fill-loop-u-init
 fill-loop-u-init t c = (
@@ -134,13 +151,23 @@ fill-loop-u-preserved t c =
           c.set.ensures.places,
     )
 
+pub row_of_few-returns-clause-exact : goal.row_of_few-returns-clause-exact
+row_of_few-returns-clause-exact t c =
+    let g : ℕ → K3 = λ u. value (structure_of c.args.s.now) (put (assignment_of c.args.a.now) c.args.v.0 u)
+    (form_of c.args.f.now)
+    in words-all c.args.s.now.size 1 g c.put_word.new.self
+    (words-next c.args.s.now.size 0 g c.of-values.result c.put_word.new.self c.word_of-word.result
+    (words-none c.args.s.now.size c.size.result g c.of-values.result c.of-values.ensures c.size.ensures.size)
+    c.word_of-word.ensures.exact c.put_word.ensures.size c.put_word.ensures.values c.put_word.ensures.others)
+    (omega arith)
+
 pub row_of-loop-chunk-init : goal.row_of-loop-chunk-init
 row_of-loop-chunk-init t c = (
   refl,
   c.requires.kept,
-  words-none c.args.s.now.size c.size.result (λ u. value (structure_of c.args.s.now) (put (assignment_of c.args.a.now) c.args.v.0 u)
+  words-none c.args.s.now.size c.size-2.result (λ u. value (structure_of c.args.s.now) (put (assignment_of c.args.a.now) c.args.v.0 u)
       (form_of c.args.f.now))
-      c.of-values.result c.of-values.ensures c.size.ensures.size,
+      c.of-values.result c.of-values.ensures c.size-2.ensures.size,
 )
 
 pub row_of-word_of-word-requires : goal.row_of-word_of-word-requires
@@ -149,7 +176,7 @@ row_of-word_of-word-requires t c = (
   (
     subst (λ sizes. CanEvaluate c.args.s.now c.args.a.now sizes
         (FExists c.args.v.0 (form_of c.args.f.now))) (sym c.loop-chunk.invariant.0) c.requires.parts,
-    (omega (arith, c.chunks-chunk-end.ensures.each c.loop-chunk.chunk (omega arith), c.size-2.ensures.size), c.loop-chunk.invariant.1),
+    (omega (arith, c.chunks-chunk-end.ensures.each c.loop-chunk.chunk (omega arith), c.size-3.ensures.size), c.loop-chunk.invariant.1),
   ),
 )
 
@@ -169,35 +196,33 @@ row_of-returns-clause-exact t c =
     (form_of c.args.f.now))
     c.loop-chunk.values c.loop-chunk.invariant.2 (omega (arith, c.chunks-chunk-end.ensures.all))
 
-pub word_of-returns-in-Zero-clause-exact : goal.word_of-returns-in-Zero-clause-exact
-word_of-returns-in-Zero-clause-exact t c =
+pub word_by_parts-returns-in-Zero-clause-exact : goal.word_by_parts-returns-in-Zero-clause-exact
+word_by_parts-returns-in-Zero-clause-exact t c =
     rw c.in-Zero.is (c.constant_word.ensures c.args.s.now.size c.args.chunk)
 
-pub word_of-returns-in-One-clause-exact : goal.word_of-returns-in-One-clause-exact
-word_of-returns-in-One-clause-exact t c =
+pub word_by_parts-returns-in-One-clause-exact : goal.word_by_parts-returns-in-One-clause-exact
+word_by_parts-returns-in-One-clause-exact t c =
     rw c.in-One.is (c.constant_word-in-One.ensures c.args.s.now.size c.args.chunk)
 
-pub word_of-returns-in-Not-clause-exact : goal.word_of-returns-in-Not-clause-exact
-word_of-returns-in-Not-clause-exact t c =
-    rw (c.in-Not.is, ← c.deref.ensures)
-    (of-mapped c.args.s.now.size c.args.chunk c.places.result negation_of
-    (λ u. value (structure_of c.args.s.now) (put (assignment_of c.args.a.now) c.args.v.0 u)
-    (form_of c.deref.result.now))
+pub words_negated-returns-clause-exact : goal.words_negated-returns-clause-exact
+words_negated-returns-clause-exact t c =
+    of-mapped c.args.s.now.size c.args.chunk c.places.result negation_of
+    (λ u. value (structure_of c.args.s.now) (put (assignment_of c.args.a.now) c.args.v.0 u) (form_of c.args.g.now))
     c.word_of.result c.not.result c.word_of.ensures.exact (c.places.ensures.value ∙ (rw c.size.ensures.size refl))
-    c.not.ensures)
+    c.not.ensures
 
 pub words_both-returns-then-eq-clause-exact : goal.words_both-returns-then-eq-clause-exact
 words_both-returns-then-eq-clause-exact t c =
     none-both c.args.s.now.size c.args.chunk (λ u. value (structure_of c.args.s.now) (put (assignment_of c.args.a.now) c.args.v.0 u) (form_of c.args.h.now))
-    c.in-Some.second c.in-Some.ensures
+    c.word_of-second.result c.word_of-second.ensures.exact
     (λ u. value (structure_of c.args.s.now) (put (assignment_of c.args.a.now) c.args.v.0 u) (form_of c.args.g.now))
     (sym c.greatest.ensures ∙ told-equal c.greatest.result No c.eq.result c.eq.ensures.same c.if-eq.true)
 
-pub words_both-returns-in-Some-clause-exact : goal.words_both-returns-in-Some-clause-exact
-words_both-returns-in-Some-clause-exact t c =
+pub words_both-returns-then-is_literal-clause-exact : goal.words_both-returns-then-is_literal-clause-exact
+words_both-returns-then-is_literal-clause-exact t c =
     of-paired c.args.s.now.size c.args.chunk smaller_of (λ u. value (structure_of c.args.s.now) (put (assignment_of c.args.a.now) c.args.v.0 u) (form_of c.args.g.now))
     (λ u. value (structure_of c.args.s.now) (put (assignment_of c.args.a.now) c.args.v.0 u) (form_of c.args.h.now))
-    c.word_of.result c.in-Some.second c.and.result c.word_of.ensures.exact c.in-Some.ensures c.and.ensures
+    c.word_of.result c.word_of-second.result c.and.result c.word_of.ensures.exact c.word_of-second.ensures.exact c.and.ensures
 
 pub words_both-returns-then-eq-2-clause-exact : goal.words_both-returns-then-eq-2-clause-exact
 words_both-returns-then-eq-2-clause-exact t c =
@@ -216,15 +241,15 @@ words_both-returns-clause-exact t c =
 pub words_either-returns-then-eq-clause-exact : goal.words_either-returns-then-eq-clause-exact
 words_either-returns-then-eq-clause-exact t c =
     all-either c.args.s.now.size c.args.chunk (λ u. value (structure_of c.args.s.now) (put (assignment_of c.args.a.now) c.args.v.0 u) (form_of c.args.h.now))
-    c.in-Some.second c.in-Some.ensures
+    c.word_of-second.result c.word_of-second.ensures.exact
     (λ u. value (structure_of c.args.s.now) (put (assignment_of c.args.a.now) c.args.v.0 u) (form_of c.args.g.now))
     c.places.result (c.places.ensures.value ∙ (rw c.size.ensures.size refl)) (sym c.least.ensures ∙ told-equal c.least.result Yes c.eq.result c.eq.ensures.same c.if-eq.true)
 
-pub words_either-returns-in-Some-clause-exact : goal.words_either-returns-in-Some-clause-exact
-words_either-returns-in-Some-clause-exact t c =
+pub words_either-returns-then-is_literal-clause-exact : goal.words_either-returns-then-is_literal-clause-exact
+words_either-returns-then-is_literal-clause-exact t c =
     of-paired c.args.s.now.size c.args.chunk larger_of (λ u. value (structure_of c.args.s.now) (put (assignment_of c.args.a.now) c.args.v.0 u) (form_of c.args.g.now))
     (λ u. value (structure_of c.args.s.now) (put (assignment_of c.args.a.now) c.args.v.0 u) (form_of c.args.h.now))
-    c.word_of.result c.in-Some.second c.or.result c.word_of.ensures.exact c.in-Some.ensures c.or.ensures
+    c.word_of.result c.word_of-second.result c.or.result c.word_of.ensures.exact c.word_of-second.ensures.exact c.or.ensures
 
 pub words_either-returns-then-eq-2-clause-exact : goal.words_either-returns-then-eq-2-clause-exact
 words_either-returns-then-eq-2-clause-exact t c =
@@ -482,6 +507,26 @@ quantify_anew-returns-clause-exact t c =
     ∙ quantified-value c.args.q (structure_of c.args.s.now) (assignment_of c.args.a.now) c.args.v.0
     (form_of c.args.body.now)
 
+pub quantify_few-returns-clause-exact : goal.quantify_few-returns-clause-exact
+quantify_few-returns-clause-exact t c =
+    let n : ℕ = c.args.s.now.size
+    in let h : ℕ → K3 = λ u. value (structure_of c.args.s.now) (put (assignment_of c.args.a.now) c.args.v.0 u)
+    (form_of c.args.body.now)
+    in let g : ℕ → K3 = λ u. turned c.args.q (h u)
+    in let whole : K3 = greatest_of g (range_with_len 0 n)
+    in let all : n - 64 * 0 ≡ n = omega arith
+    in let next : larger_of c.greatest.result (greatest_of g (range_with_len (64 * (0 + 1)) (n - 64 * (0 + 1))))
+    ≡ whole =
+    greatest-chunk n 0 c.places.result g (map (turned c.args.q) c.word_of-word.result) (omega arith)
+    (c.places.ensures.value ∙ (rw c.size.ensures.size refl))
+    (mapped-word n 0 (turned c.args.q) h c.word_of-word.result c.word_of-word.ensures.exact)
+    No c.greatest.result c.greatest.result whole c.turned_word-turned.result
+    c.turned_word-turned.ensures c.greatest.ensures refl (ap (λ m. greatest_of g (range_with_len 0 m)) all)
+    in c.turned.ensures
+    ∙ ap (turned c.args.q) (greatest-chunks n 1 g c.greatest.result whole (omega arith) next)
+    ∙ quantified-value c.args.q (structure_of c.args.s.now) (assignment_of c.args.a.now) c.args.v.0
+    (form_of c.args.body.now)
+
 pub by_values-loop-i-init : goal.by_values-loop-i-init
 by_values-loop-i-init t c =
     let count : c.places-count.result ≡ min 64 (c.args.s.now.size - 64 * c.args.chunk) =
@@ -590,8 +635,8 @@ quantified_word-by_values-requires-then-has_few t c =
     c.places-count.ensures.value ∙ (rw c.size.ensures.size refl)
     in let caps : IsCapWord c.args.s.now.size c.args.chunk (λ u. turned c.args.q (value (structure_of c.args.s.now) (put (assignment_of c.args.a.now) c.args.v.0 u)
     (quantified c.args.q c.args.w.0 (form_of c.args.body.now))) ≡ No) c.first-front.result =
-    front-caps c.args.s.now (assignment_of c.args.a.now) c.args.v.0 c.args.w.0 c.args.q (form_of c.args.body.now) c.with.result c.if-w-v.false
-    (λ z outside. (c.with.ensures.outside z outside).0) c.args.chunk c.places-count.result c.cap_word.result
+    front-caps c.args.s.now (assignment_of c.args.a.now) c.args.v.0 c.args.w.0 c.args.q (form_of c.args.body.now) c.with-2.result c.if-w-v.false
+    (λ z outside. (c.with-2.ensures.outside z outside).0) c.args.chunk c.places-count.result c.cap_word.result
     c.first-front.result c.cap_word.ensures count c.first-front.ensures
     in let high : height (form_of c.args.f.now) ≡ height (form_of c.args.body.now) + 1 = ap height c.requires.whole ∙ height-quantified c.args.q c.args.w.0 (form_of c.args.body.now)
     in (
@@ -608,8 +653,8 @@ quantified_word-by_values-requires-then-is_slower t c =
     c.places-count.ensures.value ∙ (rw c.size.ensures.size refl)
     in let caps : IsCapWord c.args.s.now.size c.args.chunk (λ u. turned c.args.q (value (structure_of c.args.s.now) (put (assignment_of c.args.a.now) c.args.v.0 u)
     (quantified c.args.q c.args.w.0 (form_of c.args.body.now))) ≡ No) c.first-front.result =
-    front-caps c.args.s.now (assignment_of c.args.a.now) c.args.v.0 c.args.w.0 c.args.q (form_of c.args.body.now) c.with.result c.if-w-v.false
-    (λ z outside. (c.with.ensures.outside z outside).0) c.args.chunk c.places-count.result c.cap_word.result
+    front-caps c.args.s.now (assignment_of c.args.a.now) c.args.v.0 c.args.w.0 c.args.q (form_of c.args.body.now) c.with-2.result c.if-w-v.false
+    (λ z outside. (c.with-2.ensures.outside z outside).0) c.args.chunk c.places-count.result c.cap_word.result
     c.first-front.result c.cap_word.ensures count c.first-front.ensures
     in let high : height (form_of c.args.f.now) ≡ height (form_of c.args.body.now) + 1 = ap height c.requires.whole ∙ height-quantified c.args.q c.args.w.0 (form_of c.args.body.now)
     in (
@@ -620,8 +665,8 @@ quantified_word-by_values-requires-then-is_slower t c =
       ),
     )
 
-pub word_of-by_values-requires : goal.word_of-by_values-requires
-word_of-by_values-requires t c = (
+pub word_by_parts-by_values-requires : goal.word_by_parts-by_values-requires
+word_by_parts-by_values-requires t c = (
   search rules,
   (
     c.requires.parts,
@@ -696,8 +741,54 @@ closed_part-returns-in-Some-clause-exact t c =
     c.size.ensures.size c.requires.part
     (c.in-Some.ensures.held c.args.s.now (assignment_of c.args.a.now) c.requires.kept) c.part.ensures
 
-pub quantified_word-loop-x-init : goal.quantified_word-loop-x-init
-quantified_word-loop-x-init t c = (
+pub quantified_word-joined_words-requires : goal.quantified_word-joined_words-requires
+quantified_word-joined_words-requires t c = (
+  search rules,
+  (
+    c.requires.parts,
+    (
+      c.requires.chunk,
+      (
+        c.requires.kept,
+        (
+          c.if-w-v.false,
+          record {
+            long = c.cap_row-caps.ensures.long;
+            each = λ x lt no u. caps-rule c.args.s.now (assignment_of c.args.a.now) c.args.v.0 c.args.w.0 c.args.q
+                (form_of c.args.body.now) c.with.result (λ z outside. (c.with.ensures.outside z outside).0) x
+                (c.cap_row-caps.ensures.each x lt no) u;
+          },
+        ),
+      ),
+    ),
+  ),
+)
+
+pub quantified_word-joined_words-requires-2 : goal.quantified_word-joined_words-requires-2
+quantified_word-joined_words-requires-2 t c = (
+  search rules,
+  (
+    c.requires.parts,
+    (
+      c.requires.chunk,
+      (
+        c.requires.kept,
+        (
+          c.if-w-v.false,
+          record {
+            long = c.cap_row-caps-2.ensures.long;
+            each = λ x lt no u. caps-rule c.args.s.now (assignment_of c.args.a.now) c.args.v.0 c.args.w.0 c.args.q
+                (form_of c.args.body.now) c.with-3.result (λ z outside. (c.with-3.ensures.outside z outside).0) x
+                (c.cap_row-caps-2.ensures.each x lt no) u;
+          },
+        ),
+      ),
+    ),
+  ),
+)
+
+pub joined_words-loop-x-init : goal.joined_words-loop-x-init
+joined_words-loop-x-init t c = (
   refl,
   c.requires.kept,
   joined-none c.args.s.now.size c.args.chunk (λ u x. turned c.args.q (value (structure_of c.args.s.now)
@@ -707,9 +798,9 @@ quantified_word-loop-x-init t c = (
   omega arith,
 )
 
-pub quantified_word-word_of-word-requires : goal.quantified_word-word_of-word-requires
-quantified_word-word_of-word-requires t c =
-    let lt : c.in-Some.x < c.args.s.now.size = omega (arith, c.in-Some.ensures.1, c.cap_row-caps.ensures.long)
+pub joined_words-word_of-word-requires : goal.joined_words-word_of-word-requires
+joined_words-word_of-word-requires t c =
+    let lt : c.in-Some.x < c.args.s.now.size = omega (arith, c.in-Some.ensures.1, c.requires.caps.long)
     in (
       search rules,
       (
@@ -722,24 +813,22 @@ quantified_word-word_of-word-requires t c =
       ),
     )
 
-pub quantified_word-loop-x-preserved : goal.quantified_word-loop-x-preserved
-quantified_word-loop-x-preserved t c =
+pub joined_words-loop-x-preserved : goal.joined_words-loop-x-preserved
+joined_words-loop-x-preserved t c =
     let g : ℕ → ℕ → K3 = λ u x. turned c.args.q (value (structure_of c.args.s.now)
     (put (put (assignment_of c.args.a.now) c.args.v.0 u) c.args.w.0 x) (form_of c.args.body.now))
     in let count : c.places-count.result ≡ min 64 (c.args.s.now.size - 64 * c.args.chunk) =
     c.places-count.ensures.value ∙ (rw c.size.ensures.size refl)
-    in let lt : c.in-Some.x < c.args.s.now.size = omega (arith, c.in-Some.ensures.1, c.cap_row-caps.ensures.long)
+    in let lt : c.in-Some.x < c.args.s.now.size = omega (arith, c.in-Some.ensures.1, c.requires.caps.long)
     in let skipped : JoinedTo c.args.s.now.size c.args.chunk c.in-Some.x g c.loop-x.found =
     joined-skip c.args.s.now.size c.args.chunk c.loop-x.from c.in-Some.x g c.loop-x.found c.loop-x.invariant.2 c.in-Some.ensures.0 (omega arith)
-    (λ y low below u. caps-rule c.args.s.now (assignment_of c.args.a.now) c.args.v.0 c.args.w.0 c.args.q (form_of c.args.body.now) c.with-2.result
-    (λ z outside. (c.with-2.ensures.outside z outside).0) y
-    (c.cap_row-caps.ensures.each y (omega arith) (c.in-Some.ensures.3 y low below)) u)
+    (λ y low below u. c.requires.caps.each y (omega arith) (c.in-Some.ensures.3 y low below) u)
     in let h : ℕ → K3 = λ u. value (structure_of c.args.s.now) (put (assignment_of c.set.new.self) c.args.v.0 u) (form_of c.args.body.now)
     in let here : (u : ℕ) → turned c.args.q (h u) ≡ g u c.in-Some.x = λ u. ap (turned c.args.q)
     (ap (λ b. value (structure_of c.args.s.now) (put b c.args.v.0 u) (form_of c.args.body.now))
     (total-again c.args.a.now c.loop-x.here c.set.new.self c.args.w.0 c.in-Some.x c.loop-x.invariant.3
     c.set.ensures.places)
-    ∙ puts_commute c.args.s.now (assignment_of c.args.a.now) c.args.v.0 c.args.w.0 u c.in-Some.x (form_of c.args.body.now) c.if-w-v.false)
+    ∙ puts_commute c.args.s.now (assignment_of c.args.a.now) c.args.v.0 c.args.w.0 u c.in-Some.x (form_of c.args.body.now) c.requires.apart)
     in let row : IsWordOf c.args.s.now.size c.args.chunk (λ u. g u c.in-Some.x) c.turned_word.result =
     same-word c.args.s.now.size c.args.chunk (λ u. turned c.args.q (h u)) (λ u. g u c.in-Some.x) c.turned_word.result
     (of-mapped c.args.s.now.size c.args.chunk c.places-count.result (turned c.args.q) h c.word_of-word.result
@@ -756,24 +845,22 @@ quantified_word-loop-x-preserved t c =
       omega (arith, c.in-Some.ensures.1),
     )
 
-pub quantified_word-returns-then-eq-clause-exact : goal.quantified_word-returns-then-eq-clause-exact
-quantified_word-returns-then-eq-clause-exact t c =
+pub joined_words-returns-then-eq-clause-exact : goal.joined_words-returns-then-eq-clause-exact
+joined_words-returns-then-eq-clause-exact t c =
     let g : ℕ → ℕ → K3 = λ u x. turned c.args.q (value (structure_of c.args.s.now)
     (put (put (assignment_of c.args.a.now) c.args.v.0 u) c.args.w.0 x) (form_of c.args.body.now))
     in let count : c.places-count.result ≡ min 64 (c.args.s.now.size - 64 * c.args.chunk) =
     c.places-count.ensures.value ∙ (rw c.size.ensures.size refl)
-    in let lt : c.in-Some.x < c.args.s.now.size = omega (arith, c.in-Some.ensures.1, c.cap_row-caps.ensures.long)
+    in let lt : c.in-Some.x < c.args.s.now.size = omega (arith, c.in-Some.ensures.1, c.requires.caps.long)
     in let skipped : JoinedTo c.args.s.now.size c.args.chunk c.in-Some.x g c.loop-x.found =
     joined-skip c.args.s.now.size c.args.chunk c.loop-x.from c.in-Some.x g c.loop-x.found c.loop-x.invariant.2 c.in-Some.ensures.0 (omega arith)
-    (λ y low below u. caps-rule c.args.s.now (assignment_of c.args.a.now) c.args.v.0 c.args.w.0 c.args.q (form_of c.args.body.now) c.with-2.result
-    (λ z outside. (c.with-2.ensures.outside z outside).0) y
-    (c.cap_row-caps.ensures.each y (omega arith) (c.in-Some.ensures.3 y low below)) u)
+    (λ y low below u. c.requires.caps.each y (omega arith) (c.in-Some.ensures.3 y low below) u)
     in let h : ℕ → K3 = λ u. value (structure_of c.args.s.now) (put (assignment_of c.set.new.self) c.args.v.0 u) (form_of c.args.body.now)
     in let here : (u : ℕ) → turned c.args.q (h u) ≡ g u c.in-Some.x = λ u. ap (turned c.args.q)
     (ap (λ b. value (structure_of c.args.s.now) (put b c.args.v.0 u) (form_of c.args.body.now))
     (total-again c.args.a.now c.loop-x.here c.set.new.self c.args.w.0 c.in-Some.x c.loop-x.invariant.3
     c.set.ensures.places)
-    ∙ puts_commute c.args.s.now (assignment_of c.args.a.now) c.args.v.0 c.args.w.0 u c.in-Some.x (form_of c.args.body.now) c.if-w-v.false)
+    ∙ puts_commute c.args.s.now (assignment_of c.args.a.now) c.args.v.0 c.args.w.0 u c.in-Some.x (form_of c.args.body.now) c.requires.apart)
     in let row : IsWordOf c.args.s.now.size c.args.chunk (λ u. g u c.in-Some.x) c.turned_word.result =
     same-word c.args.s.now.size c.args.chunk (λ u. turned c.args.q (h u)) (λ u. g u c.in-Some.x) c.turned_word.result
     (of-mapped c.args.s.now.size c.args.chunk c.places-count.result (turned c.args.q) h c.word_of-word.result
@@ -790,18 +877,16 @@ quantified_word-returns-then-eq-clause-exact t c =
     c.places-count.result count (sym c.least.ensures ∙ told-equal c.least.result Yes c.eq.result c.eq.ensures.same c.if-eq.true)) count c.turned_word-then-eq.ensures)
     (λ u lt. quantified-value c.args.q (structure_of c.args.s.now) (put (assignment_of c.args.a.now) c.args.v.0 u) c.args.w.0 (form_of c.args.body.now))
 
-pub quantified_word-returns-clause-exact : goal.quantified_word-returns-clause-exact
-quantified_word-returns-clause-exact t c =
+pub joined_words-returns-clause-exact : goal.joined_words-returns-clause-exact
+joined_words-returns-clause-exact t c =
     let g : ℕ → ℕ → K3 = λ u x. turned c.args.q (value (structure_of c.args.s.now)
     (put (put (assignment_of c.args.a.now) c.args.v.0 u) c.args.w.0 x) (form_of c.args.body.now))
     in let count : c.places-count.result ≡ min 64 (c.args.s.now.size - 64 * c.args.chunk) =
     c.places-count.ensures.value ∙ (rw c.size.ensures.size refl)
-    in let long : length c.cap_row-caps.result ≡ c.args.s.now.size = c.cap_row-caps.ensures.long
+    in let long : length c.args.caps.now ≡ c.args.s.now.size = c.requires.caps.long
     in let joined : JoinedTo c.args.s.now.size c.args.chunk c.args.s.now.size g c.loop-x.found =
     joined-skip c.args.s.now.size c.args.chunk c.loop-x.from c.args.s.now.size g c.loop-x.found c.loop-x.invariant.2 (omega (arith, c.loop-x.invariant.4)) (omega arith)
-    (λ y low below u. caps-rule c.args.s.now (assignment_of c.args.a.now) c.args.v.0 c.args.w.0 c.args.q (form_of c.args.body.now) c.with-2.result
-    (λ z outside. (c.with-2.ensures.outside z outside).0) y
-    (c.cap_row-caps.ensures.each y below (c.in_default.ensures y low (omega arith))) u)
+    (λ y low below u. c.requires.caps.each y below (c.in_default.ensures y low (omega arith)) u)
     in same-word c.args.s.now.size c.args.chunk
     (λ u. turned c.args.q (greatest_of (g u) (range_with_len 0 c.args.s.now.size)))
     (λ u. value (structure_of c.args.s.now) (put (assignment_of c.args.a.now) c.args.v.0 u) (quantified c.args.q c.args.w.0 (form_of c.args.body.now))) c.turned_word-2.result
@@ -1188,16 +1273,22 @@ linked_word-returns-else-not-takes-clause-exact t c g is =
 
 pub quantify-returns-in-Some-clause-exact : goal.quantify-returns-in-Some-clause-exact
 quantify-returns-in-Some-clause-exact t c =
-    c.in-Some.ensures.value c.args.s.now c.args.shared.now c.requires.kept
+    c.in-Some.ensures.value c.args.s.now c.args.shared.now
+    (c.turn-since.ensures c.args.s.now c.args.shared.now c.requires.kept)
     ∙ ap (value (structure_of c.args.s.now) (assignment_of c.args.a.now)) c.requires.whole
+
+pub quantify-returns-in-Some-clause-kept : goal.quantify-returns-in-Some-clause-kept
+quantify-returns-in-Some-clause-kept t c =
+    subst (λ k. HoldsClosures c.args.s.now k c.args.shared.now) (sym c.in-Some.ensures.same)
+    (c.turn-since.ensures c.args.s.now c.args.shared.now c.requires.kept)
 
 pub quantify-quantify_anew-k-requires : goal.quantify-quantify_anew-k-requires
 quantify-quantify_anew-k-requires t c = (
   search rules,
   (
     c.requires.parts,
-    c.turn-since.ensures c.args.s.now c.args.shared.now
-        (subst (λ k. HoldsClosures c.args.s.now k c.args.shared.now) (sym c.value.ensures.same) c.requires.kept),
+    subst (λ k. HoldsClosures c.args.s.now k c.args.shared.now) (sym c.value.ensures.same)
+        (c.turn-since.ensures c.args.s.now c.args.shared.now c.requires.kept),
   ),
 )
 

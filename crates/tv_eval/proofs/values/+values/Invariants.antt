@@ -25,7 +25,10 @@ use Rattle.tv_quantifiers.specs.declared.runs.Level.{Level}
 use Rattle.tv_eval.proofs.values.+values.Given as goal
 
 abbrev pub decreases-value_of : goal.decreases-value_of
-decreases-value_of l = 16 * height (form_of l.f.now)
+decreases-value_of l = 16 * height (form_of l.f.now) + 1
+
+abbrev pub decreases-value_by_parts : goal.decreases-value_by_parts
+decreases-value_by_parts l = 16 * height (form_of l.f.now)
 
 abbrev pub decreases-both : goal.decreases-both
 decreases-both l = 16 * max (height (form_of l.g.now)) (height (form_of l.h.now)) + 7
@@ -46,23 +49,35 @@ decreases-quantify l = 16 * height (form_of l.body.now) + 13
 abbrev pub decreases-quantify_anew : goal.decreases-quantify_anew
 decreases-quantify_anew l = 16 * height (form_of l.body.now) + 12
 
+abbrev pub decreases-quantify_few : goal.decreases-quantify_few
+decreases-quantify_few l = 16 * height (form_of l.body.now) + 11
+
+abbrev pub decreases-words_negated : goal.decreases-words_negated
+decreases-words_negated l = 16 * height (form_of l.g.now) + 7
+
 abbrev pub decreases-closure : goal.decreases-closure
-decreases-closure l = 16 * height (form_of l.edges.body.now) + 7
+decreases-closure l = 16 * height (form_of l.edges.body.now) + 10
 
 abbrev pub decreases-closed_part : goal.decreases-closed_part
-decreases-closed_part l = 16 * height (form_of l.edges.body.now) + 6
+decreases-closed_part l = 16 * height (form_of l.edges.body.now) + 9
 
 abbrev pub decreases-fill : goal.decreases-fill
-decreases-fill l = 16 * height (form_of l.edges.body.now) + 5
+decreases-fill l = 16 * height (form_of l.edges.body.now) + 8
 
 abbrev pub decreases-row_of : goal.decreases-row_of
-decreases-row_of l = 16 * height (form_of l.f.now) + 4
+decreases-row_of l = 16 * height (form_of l.f.now) + 7
+
+abbrev pub decreases-row_of_few : goal.decreases-row_of_few
+decreases-row_of_few l = 16 * height (form_of l.f.now) + 6
 
 abbrev pub decreases-word_of : goal.decreases-word_of
-decreases-word_of l = 16 * height (form_of l.f.now) + 3
+decreases-word_of l = 16 * height (form_of l.f.now) + 5
+
+abbrev pub decreases-word_by_parts : goal.decreases-word_by_parts
+decreases-word_by_parts l = 16 * height (form_of l.f.now) + 4
 
 abbrev pub decreases-by_values : goal.decreases-by_values
-decreases-by_values l = 16 * height (form_of l.f.now) + 1
+decreases-by_values l = 16 * height (form_of l.f.now) + 2
 
 abbrev pub decreases-words_both : goal.decreases-words_both
 decreases-words_both l = 16 * max (height (form_of l.g.now)) (height (form_of l.h.now)) + 7
@@ -104,10 +119,13 @@ decreases-words_choice l = 16 * max (height (form_of l.c.now))
     (max (height (form_of l.g.now)) (height (form_of l.h.now))) + 7
 
 abbrev pub decreases-quantified_word : goal.decreases-quantified_word
-decreases-quantified_word l = 16 * height (form_of l.body.now) + 18
+decreases-quantified_word l = 16 * height (form_of l.body.now) + 19
+
+abbrev pub decreases-joined_words : goal.decreases-joined_words
+decreases-joined_words l = 16 * height (form_of l.body.now) + 17
 
 abbrev pub decreases-closure_word : goal.decreases-closure_word
-decreases-closure_word l = 16 * height (form_of l.edges.body.now) + 8
+decreases-closure_word l = 16 * height (form_of l.edges.body.now) + 11
 
 -- the greatest value of the words so far, with the greatest of the others, gives the whole
 abbrev pub invariant-quantify_anew-loop-chunk : goal.invariant-quantify_anew-loop-chunk
@@ -127,8 +145,8 @@ invariant-row_of-loop-chunk l =
     (λ u. value (structure_of l.s) (put (assignment_of l.a) l.v.0 u) (form_of l.f)) l.values
 
 -- for each individual the values of those so far are joined
-abbrev pub invariant-quantified_word-loop-x : goal.invariant-quantified_word-loop-x
-invariant-quantified_word-loop-x l =
+abbrev pub invariant-joined_words-loop-x : goal.invariant-joined_words-loop-x
+invariant-joined_words-loop-x l =
     (sizes_of l.rooms ≡ sizes_of l.initial.rooms)
     × HoldsClosures l.s l.kept l.shared
     × JoinedTo l.s.size l.chunk l.from
@@ -137,8 +155,8 @@ invariant-quantified_word-loop-x l =
     × IsLike l.a l.w.0 l.here
     × (l.from ≤ length l.caps)
 
-abbrev pub decreases-quantified_word-loop-x : goal.decreases-quantified_word-loop-x
-decreases-quantified_word-loop-x l = length l.caps - l.from
+abbrev pub decreases-joined_words-loop-x : goal.decreases-joined_words-loop-x
+decreases-joined_words-loop-x l = length l.caps - l.from
 
 abbrev pub decreases-run : goal.decreases-run
 decreases-run l = 16 * height (form_of l.body.now) + 11
@@ -202,4 +220,4 @@ abbrev pub decreases-linked_value : goal.decreases-linked_value
 decreases-linked_value l = 16 * height (form_of l.part.now) + 7
 
 abbrev pub decreases-linked_word : goal.decreases-linked_word
-decreases-linked_word l = 16 * height (form_of l.f.now) + 4
+decreases-linked_word l = 16 * height (form_of l.f.now) + 6

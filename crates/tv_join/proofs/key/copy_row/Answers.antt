@@ -1,8 +1,8 @@
-use Rattle.std.proofs.Common.{◌∙◌, ap, length, sym}
+use Rattle.std.proofs.Common.{◌∙◌, ap, length, refl, sym}
 use Rattle.std.specs.Prelude.{slice_get}
 use Rattle.tv_struct.specs.StructureForm.{StructureForm}
 use Rattle.tv_struct.proofs.Library.{length-unary_row}
-use Rattle.tv_join.proofs.Copying.{copied-row}
+use Rattle.tv_join.proofs.Copying.{copied-row, nowhere-none}
 use Rattle.tv_join.proofs.Entries.{same-everywhere}
 use Rattle.tv_join.proofs.key.copy_row.Goals as goal
 
@@ -19,3 +19,18 @@ returns-clause-values c =
     (copied-row c.args.s.now new c.args.p.0 size
     (ap (λ x. slice_get x c.args.p.0) (c.set_unary_row.ensures.over ∙ c.requires.over) ∙ c.requires.arity)
     (c.set_unary_row.ensures.row ∙ c.unary_row-row.ensures))
+
+pub returns-then-is_nowhere-clause-changes : goal.returns-then-is_nowhere-clause-changes
+returns-then-is_nowhere-clause-changes c = record {
+  size = refl;
+  over = refl;
+  summaries = refl;
+  fresh = refl;
+  others = λ q tuple differ. refl;
+}
+
+pub returns-then-is_nowhere-clause-values : goal.returns-then-is_nowhere-clause-values
+returns-then-is_nowhere-clause-values c tuple =
+    nowhere-none c.args.s.now c.args.p.0 c.size.ensures.kept c.requires.arity
+    (c.is_nowhere.ensures c.if-is_nowhere.true) tuple
+    ∙ sym (c.requires.blank tuple)

@@ -5,16 +5,20 @@ use Rattle.tv_join.proofs.pairwise.join_into.Goals as goal
 pub loop-p-init : goal.loop-p-init
 loop-p-init c = joined-none c.args.s.now c.args.t.now c.join_summaries.new.s c.join_summaries.ensures.joined
 
-pub join_values-requires-clause-size : goal.join_values-requires-clause-size
-join_values-requires-clause-size c = c.loop-p.invariant.size ∙ c.requires.size
+pub join_next-requires-clause-size : goal.join_next-requires-clause-size
+join_next-requires-clause-size c = c.loop-p.invariant.size ∙ c.requires.size
 
-pub join_values-requires-clause-over : goal.join_values-requires-clause-over
-join_values-requires-clause-over c = c.loop-p.invariant.over ∙ c.requires.over
+pub join_next-requires-clause-over : goal.join_next-requires-clause-over
+join_next-requires-clause-over c = c.loop-p.invariant.over ∙ c.requires.over
+
+pub join_next-requires-clause-same : goal.join_next-requires-clause-same
+join_next-requires-clause-same c counts tuple =
+    c.loop-p.invariant.left c.loop-p.p (omega arith) tuple ∙ c.requires.same c.loop-p.p counts tuple
 
 pub loop-p-preserved : goal.loop-p-preserved
 loop-p-preserved c =
-    joined-more c.loop-p.p c.args.s.now c.args.t.now c.loop-p.s c.join_values.new.s c.loop-p.invariant
-    c.join_values.ensures.changes c.join_values.ensures.values
+    joined-more c.loop-p.p c.args.s.now c.args.t.now c.loop-p.s c.join_next.new.s c.loop-p.invariant
+    c.join_next.ensures.changes c.join_next.ensures.values
 
 pub returns : goal.returns
 returns c =

@@ -1,4 +1,4 @@
-use Rattle.std.proofs.Common.{ℕ, ◌<◌, Contains, arith, get_or, subst, sym}
+use Rattle.std.proofs.Common.{Contains, arith, get_or, subst}
 use Rattle.std.proofs.lemmas.List.{get_or_default}
 use Rattle.tv_model.proofs.Lists.{Contains-map}
 use Rattle.tv_model.specs.declared.formula.PredId.{PredId}

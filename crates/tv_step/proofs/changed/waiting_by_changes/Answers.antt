@@ -24,7 +24,7 @@ pub returns-else-not-are_alike : goal.returns-else-not-are_alike
 returns-else-not-are_alike c =
     let rules = rules_of c.args.x.now.closed.now
     in let p = form_in c.args.x.now
-    in let from = c.args.parent.from.now
+    in let from = c.args.parent.now.from.now
     in let preds = range_with_len 0 (length (arities_of from))
     in IfOk-weaker c.waiting_in_all.result (WaitsAmong preds rules from c.args.s.now) (IsFew p rules c.args.s.now)
     (λ found waits. few-found p c.requires.valid from c.args.s.now preds rules c.requires.rules c.requires.from
@@ -33,13 +33,13 @@ returns-else-not-are_alike c =
 
 pub waiting_in_some-requires-clause-size : goal.waiting_in_some-requires-clause-size
 waiting_in_some-requires-clause-size c =
-    (subst (λ reach. DiffersWithin reach c.args.parent.from.now c.args.s.now) c.in-Of.is c.requires.within).alike.size
+    (subst (λ reach. DiffersWithin reach c.args.parent.now.from.now c.args.s.now) c.in-Of.is c.requires.within).alike.size
 
 pub returns-in-Of : goal.returns-in-Of
 returns-in-Of c =
     let rules = rules_of c.args.x.now.closed.now
     in let p = form_in c.args.x.now
-    in let from = c.args.parent.from.now
+    in let from = c.args.parent.now.from.now
     in let preds = map (λ w. w.pred.0) c.in-Of.updates.now ++ map (λ p. p.0) c.in-Of.preds.now
     in IfOk-weaker c.waiting_in_some.result (WaitsAmong preds rules from c.args.s.now) (IsFew p rules c.args.s.now)
     (λ found waits. few-found p c.requires.valid from c.args.s.now preds rules c.requires.rules c.requires.from

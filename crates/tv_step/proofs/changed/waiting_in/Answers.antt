@@ -1,4 +1,4 @@
-use Rattle.std.proofs.Common.{◌<◌, Some, arith, subst}
+use Rattle.std.proofs.Common.{Some, arith, subst}
 use Rattle.tv_rules.specs.EntryForms.{rules_of}
 use Rattle.tv_step.specs.Changed.{IsFew}
 use Rattle.tv_step.specs.Setting.{form_in}
@@ -11,7 +11,7 @@ returns-in-Some c =
     in let rules = rules_of c.args.x.now.closed.now
     in let few : IsFew p rules c.args.s.now (Some c.in-Some.set)
     = subst (IsFew p rules c.args.s.now) c.in-Some.is c.in_ok-waiting_by_changes.ensures
-    in few-still p rules c.args.s.now c.args.parent.redefined c.in-Some.set c.remove_met.new.set few c.requires.met
+    in few-still p rules c.args.s.now c.args.parent.now.redefined c.in-Some.set c.remove_met.new.set few c.requires.met
     c.remove_met.ensures
 
 pub remove_met-requires : goal.remove_met-requires

@@ -1,15 +1,11 @@
-use Rattle.std.proofs.Common.{◌≡◌, ◌∙◌, List, length, rules, ap, get_or, sym}
-use Rattle.std.proofs.lemmas.Iterator.Adapters.{YieldsList-from_vec}
-use Rattle.std.proofs.lemmas.Iterator.Consumers.{YieldsList-turn}
-use Rattle.std.proofs.lemmas.List.Elements.{All-contains}
+use Rattle.std.proofs.Common.{◌≡◌, ◌∙◌, List, length, rules, ap, get_or}
 use Rattle.tv_coerce.specs.RuleSets.{IsStableBut}
 use Rattle.tv_rules.specs.EntryForms.{rules_of}
 use Rattle.tv_struct.specs.StructureForm.{StructureForm}
 use Rattle.tv_step.specs.Changed.{IsFew}
-use Rattle.tv_step.specs.Ending.{Becomes}
 use Rattle.tv_step.specs.Redefined.{IsMetBy}
 use Rattle.tv_step.specs.Setting.{form_in}
-use Rattle.tv_step.proofs.Adding.{adds-more, all-only, of-only, only-one}
+use Rattle.tv_step.proofs.Adding.{all-only, of-only, only-one}
 use Rattle.tv_step.proofs.coerced.push_all.Goals as goal
 
 pub waiting_in-requires-clause-rest : goal.waiting_in-requires-clause-rest
@@ -24,7 +20,7 @@ pub waiting_in-requires-clause-met : goal.waiting_in-requires-clause-met
 waiting_in-requires-clause-met c =
     let s = c.index-as_slice-0.result
     in let is-one : length c.args.structures ≡ 1 = search rules
-    in of-only (IsMetBy c.args.parent.redefined (rules_of c.args.x.now.closed.now)) c.args.structures s
+    in of-only (IsMetBy c.args.parent.now.redefined (rules_of c.args.x.now.closed.now)) c.args.structures s
     (only-one c.args.structures s is-one
     (c.index-as_slice-0.is ∙ ap (λ (xs : List StructureForm). get_or xs 0 s) c.as_slice.ensures)) c.requires.met
 
@@ -37,28 +33,3 @@ push_only-requires-clause-few c =
     (only-one c.args.structures s is-one
     (c.index-as_slice-0.is ∙ ap (λ (xs : List StructureForm). get_or xs 0 s) c.as_slice.ensures))
     c.in_ok-found.ensures
-
-pub waiting_in-requires-in-loop-s-clause-rest : goal.waiting_in-requires-in-loop-s-clause-rest
-waiting_in-requires-in-loop-s-clause-rest c =
-    let turn = YieldsList-turn
-    (YieldsList-from_vec {s = c.into_iter-s-iterator.result} c.args.structures (search rules) (search rules))
-    c.loop-s.yielded c.loop-s.s-iterator c.loop-s.yielded_by c.next.result c.next.new.self c.in-Some.s
-    c.in-Some.is c.next.ensures.steps
-    in All-contains (IsStableBut (rules_of c.args.x.now.closed.now) c.args.waiting.now) c.args.structures
-    c.in-Some.s c.requires.rest (length c.loop-s.yielded, turn.0, sym turn.1)
-
-pub waiting_in-requires-in-loop-s-clause-met : goal.waiting_in-requires-in-loop-s-clause-met
-waiting_in-requires-in-loop-s-clause-met c =
-    let turn = YieldsList-turn
-    (YieldsList-from_vec {s = c.into_iter-s-iterator.result} c.args.structures (search rules) (search rules))
-    c.loop-s.yielded c.loop-s.s-iterator c.loop-s.yielded_by c.next.result c.next.new.self c.in-Some.s
-    c.in-Some.is c.next.ensures.steps
-    in All-contains (IsMetBy c.args.parent.redefined (rules_of c.args.x.now.closed.now)) c.args.structures
-    c.in-Some.s c.requires.met (length c.loop-s.yielded, turn.0, sym turn.1)
-
-pub loop-s-preserved : goal.loop-s-preserved
-loop-s-preserved c = record {
-  out = adds-more (Becomes c.args.ending (form_in c.args.x.now)) c.loop-s.yielded c.in-Some.s
-      c.args.out.now c.loop-s.out c.push_found.new.out c.loop-s.invariant.out c.in_ok-push_found.ensures.out;
-  scratch = cc;
-}

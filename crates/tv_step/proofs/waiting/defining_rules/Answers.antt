@@ -1,4 +1,4 @@
-use Rattle.std.proofs.Common.{ℕ, List, ◌≡◌, ◌<◌, ◌∷◌, [], ◌∙◌, All, Some, ap, arith, get_or, length}
+use Rattle.std.proofs.Common.{List, ◌≡◌, ◌<◌, ◌∷◌, [], ◌∙◌, All, Some, ap, arith, get_or, length}
 use Rattle.std.proofs.Common.{slice_get, subst, sym}
 use Rattle.std.specs.Option.{option_map}
 use Rattle.std.proofs.lemmas.List.{length-append}

@@ -1,7 +1,6 @@
 -- One ask after the other.
-use Rattle.std.proofs.Common.{subst, sym, ap, ◌∙◌}
 use Rattle.tv_rules.specs.EntryForms.{rules_of}
-use Rattle.tv_coerce.proofs.Waking.{IsWokenUpTo, woken-again, woken-next}
+use Rattle.tv_coerce.proofs.Waking.{woken-again, woken-next}
 use Rattle.tv_coerce.proofs.rule_set.RuleSet.add_seeing_asks.Goals as goal
 use Rattle.tv_coerce.proofs.rule_set.RuleSet.add_seeing_asks.Goals.{then-not-is_that, else-not-is_that}
 

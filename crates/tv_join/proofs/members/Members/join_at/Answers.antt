@@ -1,7 +1,8 @@
-use Rattle.std.proofs.Common.{ℕ, ◌≡◌, ◌∙◌, List, MatchBool, length, get_or, set, Some, ap, subst, arith}
+use Rattle.std.proofs.Common.{ℕ, ◌≡◌, ◌∙◌, List, MatchBool, length, get_or, set, Some, ap, sym, subst, arith}
 use Rattle.std.specs.Prelude.{slice_get}
 use Rattle.std.proofs.lemmas.Option.{slice_get_within, get_or_from_slice_get}
-use Rattle.tv_struct.specs.StructureForm.{StructureForm, unmarked}
+use Rattle.tv_struct.specs.StructureForm.{StructureForm, arities_of, unmarked}
+use Rattle.tv_join.specs.Keyed.{SameKey}
 use Rattle.tv_join.specs.Members.{MembersForm, place_in}
 use Rattle.tv_join.proofs.Indexing.{put-known, put-raised, put-indexed}
 use Rattle.tv_join.proofs.members.Members.join_at.Goals as goal
@@ -11,6 +12,22 @@ read-at : (xs ys : List StructureForm) (place : ℕ) (read t : StructureForm) �
     → slice_get ys place ≡ Some t → read ≡ t
 read-at xs ys place read t is e at = is ∙ ap (λ zs. get_or zs place read) e ∙ get_or_from_slice_get ys place t read at
 
+pub index-requires : goal.index-requires
+index-requires c =
+    omega (
+      arith,
+      slice_get_within c.args.self.now.structures c.args.place c.requires.key.0 c.requires.key.1,
+      ap (λ (m : MembersForm). length m.structures) c.self.view_is,
+    )
+
+pub index-requires-2 : goal.index-requires-2
+index-requires-2 c =
+    omega (
+      arith,
+      slice_get_within c.args.self.now.structures c.args.place c.requires.key.0 c.requires.key.1,
+      ap (λ (m : MembersForm). length m.structures) c.self.view_is,
+    )
+
 pub index_mut-requires : goal.index_mut-requires
 index_mut-requires c =
     omega (
@@ -18,6 +35,43 @@ index_mut-requires c =
       slice_get_within c.args.self.now.structures c.args.place c.requires.key.0 c.requires.key.1,
       ap (λ (m : MembersForm). length m.structures) c.self.view_is,
     )
+
+pub join_into-requires-clause-flags : goal.join_into-requires-clause-flags
+join_into-requires-clause-flags c =
+    let same : c.self.inside.structures.items ≡ c.args.self.now.structures = ap (λ (m : MembersForm). m.structures) c.self.view_is
+    in let t = c.requires.key.0
+    in let read : c.index.result.now ≡ t
+    = read-at c.self.inside.structures.items c.args.self.now.structures c.args.place c.index.result.now t c.index.ensures same
+    c.requires.key.1
+    in subst (λ r. length c.args.counted.now ≡ length (arities_of r)) (sym read)
+    (c.requires.flags.count ∙ ap length c.requires.key.2.over)
+
+pub join_into-requires-clause-size : goal.join_into-requires-clause-size
+join_into-requires-clause-size c =
+    let same : c.self.inside.structures.items ≡ c.args.self.now.structures = ap (λ (m : MembersForm). m.structures) c.self.view_is
+    in let t = c.requires.key.0
+    in let read : c.index.result.now ≡ t
+    = read-at c.self.inside.structures.items c.args.self.now.structures c.args.place c.index.result.now t c.index.ensures same
+    c.requires.key.1
+    in (subst (SameKey c.args.counted.now c.args.s) (sym read) c.requires.key.2).size
+
+pub join_into-requires-clause-over : goal.join_into-requires-clause-over
+join_into-requires-clause-over c =
+    let same : c.self.inside.structures.items ≡ c.args.self.now.structures = ap (λ (m : MembersForm). m.structures) c.self.view_is
+    in let t = c.requires.key.0
+    in let read : c.index.result.now ≡ t
+    = read-at c.self.inside.structures.items c.args.self.now.structures c.args.place c.index.result.now t c.index.ensures same
+    c.requires.key.1
+    in (subst (SameKey c.args.counted.now c.args.s) (sym read) c.requires.key.2).over
+
+pub join_into-requires-clause-same : goal.join_into-requires-clause-same
+join_into-requires-clause-same c =
+    let same : c.self.inside.structures.items ≡ c.args.self.now.structures = ap (λ (m : MembersForm). m.structures) c.self.view_is
+    in let t = c.requires.key.0
+    in let read : c.index.result.now ≡ t
+    = read-at c.self.inside.structures.items c.args.self.now.structures c.args.place c.index.result.now t c.index.ensures same
+    c.requires.key.1
+    in (subst (SameKey c.args.counted.now c.args.s) (sym read) c.requires.key.2).values
 
 pub returns-then-is_same-clause-puts : goal.returns-then-is_same-clause-puts
 returns-then-is_same-clause-puts c =

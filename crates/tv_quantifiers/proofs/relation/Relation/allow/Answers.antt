@@ -1,8 +1,8 @@
-use Rattle.std.proofs.Common.{ℕ, ◌≡◌, ◌<◌, ◌≤◌, ◌+◌, ◌∙◌}
+use Rattle.std.proofs.Common.{ℕ, ◌≡◌, ◌<◌, ◌≤◌, ◌+◌, ◌∙◌, arith}
 use Rattle.tv_kleene.specs.declared.K3.{K3}
 use Rattle.tv_row.specs.Places.{entry_in}
 use Rattle.tv_quantifiers.specs.Rows.{through}
-use Rattle.tv_quantifiers.proofs.RowLaws.{allowed-next}
+use Rattle.tv_quantifiers.proofs.RowLaws.{allowed-next, through-bare}
 use Rattle.tv_quantifiers.proofs.relation.Relation.allow.Goals as goal
 
 pub loop-u-preserved : goal.loop-u-preserved
@@ -18,3 +18,8 @@ loop-u-preserved c =
     allowed-next old now new n u stop c.requires.stop c.loop-u.invariant.1 c.loop-u.invariant.2
     c.extend.ensures.row c.extend.ensures.others
     in (c.extend.ensures.size ∙ c.loop-u.invariant.0, rows.0, rows.1, c.extend.ensures.square)
+
+pub returns-then-is_bare-clause-value : goal.returns-then-is_bare-clause-value
+returns-then-is_bare-clause-value c = λ u w lu lw.
+    through-bare (entry_in c.args.self.now) c.args.stop u w
+    (c.is_bare.ensures c.if-is_bare.true w (omega (arith, c.requires.square.columns c.args.stop c.requires.stop)))

@@ -1,7 +1,15 @@
 use Rattle.std.proofs.Common.{◌+◌, ◌∙◌, arith}
-use Rattle.std.proofs.lemmas.List.FromFn.{get_or-range_with_len}
+use Rattle.std.proofs.lemmas.List.FromFn.{length-range_with_len, get_or-range_with_len}
+use Rattle.std.specs.List.{range_with_len}
 use Rattle.tv_struct.proofs.DrawnLaws.{IsMark-drawn, summary_at-past}
 use Rattle.tv_struct.proofs.structure.Structure.with_new.Goals as goal
+
+pub extended-requires-clause-mark : goal.extended-requires-clause-mark
+extended-requires-clause-mark c =
+    IsMark-drawn (range_with_len 0 (c.args.self.now.size + 1)) c.args.self.now c.args.self.now.size c.args.self.now.size
+    (omega (arith, length-range_with_len 0 (c.args.self.now.size + 1)))
+    (get_or-range_with_len 0 (c.args.self.now.size + 1) c.args.self.now.size 0 (omega arith) ∙ omega arith)
+    (summary_at-past c.args.self.now c.args.self.now.size c.size-size.ensures.kept (omega arith))
 
 pub drawn-requires-clause-mark : goal.drawn-requires-clause-mark
 drawn-requires-clause-mark c =

@@ -6,7 +6,7 @@ use Rattle.tv_tvs.proofs.write.StructureWriter.write_pred.Goals as goal
 
 pub returns-in-1 : goal.returns-in-1
 returns-in-1 c =
-    subst (λ t. OnOk c.write_unary.result (c.write_unary.new.out.items ≡ c.args.out.now.items ++ t))
+    subst (λ t. OnOk c.write_unary.result (c.write_unary.new.out ≡ c.args.out.now ++ t))
     (unary_line c.args.s.now c.args.p.0 c.args.pred.now.arity c.as_slice-name.result.now c.args.pred.now.name
     (unary_row c.args.s.now c.args.p.0) c.as_slice-name.ensures c.in-1.is refl)
     c.write_unary.ensures

@@ -4,4 +4,4 @@ use Rattle.tv_tvs.proofs.write.StructureWriter.write_preds.Given as goal
 
 abbrev pub invariant-loop-p : goal.invariant-loop-p
 invariant-loop-p l =
-    l.out.items ++ preds_text l.s l.p (drop l.p l.preds) ≡ l.initial.out.items ++ preds_text l.s 0 l.preds
+    l.out ++ preds_text l.s l.p (drop l.p l.preds) ≡ l.initial.out ++ preds_text l.s 0 l.preds

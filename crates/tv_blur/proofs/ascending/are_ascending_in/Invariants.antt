@@ -1,0 +1,10 @@
+use Rattle.std.proofs.Common.{◌≡◌, ◌-◌, length, map, take}
+use Rattle.tv_struct.specs.StructureForm.{kept_from}
+use Rattle.tv_blur.specs.Names.{is_abstraction}
+use Rattle.tv_blur.specs.Rising.{TellsRises}
+use Rattle.tv_blur.proofs.ascending.are_ascending_in.Given as goal
+
+abbrev pub invariant-loop-p : goal.invariant-loop-p
+invariant-loop-p l =
+    TellsRises (kept_from 0 (take l.p (map is_abstraction l.vocab.preds))) l.s (take (l.s.size - 1) l.rises)
+    × (length l.rises ≡ 64)

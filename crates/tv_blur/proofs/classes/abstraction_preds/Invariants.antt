@@ -1,7 +1,0 @@
-use Rattle.std.proofs.Common.{◌≡◌, map, take}
-use Rattle.tv_struct.specs.StructureForm.{kept_from}
-use Rattle.tv_blur.specs.Names.{is_abstraction}
-use Rattle.tv_blur.proofs.classes.abstraction_preds.Given as goal
-
-abbrev pub invariant-loop-p : goal.invariant-loop-p
-invariant-loop-p l = l.preds.items ≡ kept_from 0 (take l.p (map is_abstraction l.vocab.preds))

@@ -1,0 +1,5 @@
+use Rattle.tv_blur.proofs.FillLaws.{HasRows}
+use Rattle.tv_blur.proofs.merge.put_words.Given as goal
+
+abbrev pub invariant-loop-w : goal.invariant-loop-w
+invariant-loop-w l = HasRows l.classes l.s l.p.0 l.w l.initial.t l.t

@@ -1,0 +1,8 @@
+use Rattle.std.proofs.Common.{map, take}
+use Rattle.tv_struct.specs.StructureForm.{kept_from}
+use Rattle.tv_blur.specs.Names.{is_abstraction}
+use Rattle.tv_blur.specs.Naming.{TellNames}
+use Rattle.tv_blur.proofs.names.rows.Given as goal
+
+abbrev pub invariant-loop-p : goal.invariant-loop-p
+invariant-loop-p l = TellNames (kept_from 0 (take l.p (map is_abstraction l.vocab.preds))) l.s l.rows.items

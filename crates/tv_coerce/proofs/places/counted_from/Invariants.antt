@@ -1,0 +1,16 @@
+-- The members so far.
+use Rattle.std.proofs.Common.{◌≡◌, length, List}
+use Rattle.tv_kleene.specs.declared.K3.{K3}
+use Rattle.tv_eval.specs.AssignmentForm.{assignment_of}
+use Rattle.tv_coerce_members.specs.Members.{members_of}
+use Rattle.tv_coerce.specs.Steps.{CountedBy}
+use Rattle.tv_coerce.specs.Trying.{StaysBound}
+use Rattle.tv_coerce.proofs.places.counted_from.Given as goal
+
+abbrev pub invariant-loop-k : goal.invariant-loop-k
+invariant-loop-k l =
+    StaysBound l.trial.structure.now l.fn.evaluator l.evaluator
+    × (length l.word ≡ 64)
+    × ((begun : List K3)
+    → CountedBy l.trial.structure.now (assignment_of l.a) l.v.0 l.chunk (members_of l.trial.shape.now.members) l.steps l.done begun l.fn.word
+    → CountedBy l.trial.structure.now (assignment_of l.a) l.v.0 l.chunk (members_of l.trial.shape.now.members) l.steps l.k begun l.word)
