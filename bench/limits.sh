@@ -385,6 +385,22 @@ row("a run of 20 quantifiers over a chain of atoms, 200 individuals, nothing kno
     lambda size: tied(size, 20, [f"u{u}->u{w}:1/2" for u in range(size) for w in range(size)]))
 
 
+def in_parts(count, levels, pairs):
+    """A precondition of so many quantified parts, one in the other, in each of which one variable is free."""
+    inner = f"n(v{levels - 1}, v{levels - 1})"
+    for k in range(levels - 1, 0, -1):
+        inner = f"{'AE'[k % 2]}(v{k}) n(v{k - 1}, v{k}) {'|&'[k % 2]} ({inner})"
+    preds = "%p n(v, w)\n" + "".join(f"%p a{k}(v)\n" for k in range(8))
+    entries = "n = {" + ", ".join(pairs) + "} " + names_apart(count, 8)
+    return analyze(preds + "%%\n%action See() { %p A(v0) (" + inner + ") }\n%%\nL0 See() L1\n",
+                   "%n = {" + individuals(count) + "} %p = { " + entries + "}")
+
+
+for count, levels in ((20, 29), (70, 15)):
+    row(f"{levels} quantified parts, one in the other, {count} individuals, nothing known", count)(
+        lambda size, levels=levels: in_parts(size, levels, [f"u{u}->u{w}:1/2" for u in range(size) for w in range(size)]))
+
+
 row("trace: 4 MiB of steps of a heap without individuals", MIB4)(
     lambda size: replay(TAIL, EMPTY, "step 0 " * (size // 7)))
 row("trace: a step of 1,000,000 picks", 1_000_000, "status 1")(
