@@ -5,7 +5,7 @@
 # command that it has but `demo`, with one megabyte of stack. It stops at a signal, a status that the program
 # hasn't, ten seconds of processor time or two gigabytes, tells the words and keeps the texts. With OTHER, a
 # program with the same words, it also stops where status or texts differ, unless both end at a limit or one
-# ends for want of memory, and where a text takes over ten times as long and over 2 s. SEED=N begins
+# ends for lack of memory, and where a text takes over ten times as long and over 2 s. SEED=N begins
 # elsewhere; GO_ON=1 goes on behind what it finds; MADE=N makes N per cent of the texts (default 30). TVLA
 # names a program in place of the built one.
 set -u

@@ -13,7 +13,8 @@
 #                  fails, and so do other answers
 #   --list         only names the rows
 # It fails where a signal ends the program, where a limit is passed, and where a call ends otherwise than a
-# row says. TVLA names a program in place of the built one.
+# row says. TVLA names a program in place of the built one, and TVLA_EXPLAIN one in place of tvla-explain, which
+# some rows run, alone; where it isn't built, they are left out.
 set -u
 cd "$(dirname "$0")/.." || exit 1
 python3 -B - "$@" <<'END'
@@ -26,6 +27,7 @@ from texts import (BLOCKS, DEEP, DEEPEST, EMPTY, HIGHER, ONE, PLACES, TAIL, anal
                    individuals, names_apart, replay, source)
 
 MIB4, MIB64 = 4_194_304, 67_108_864
+EXPLAIN = "tvla-explain: "  # the rows of this program, of which there is no other
 FACTOR, ENOUGH = 10, 2.0  # so many times the other's time, or so many seconds, are no fault
 ROWS = []
 
@@ -74,70 +76,19 @@ row("the same, --delta, by an action that turns what they rest on", 511)(
     lambda size: analyze(texts.fan(size, 190) + texts.TURN, EMPTY, "--delta"))
 
 
-for kind in HIGHER:
-    row(f"updates of each height up to 1,000, by a chain of 505 definitions: {kind}, --delta", 505)(
-        lambda size, kind=kind: texts.higher(kind, size))
-for within in ("closures", "<-> in brackets", "conditionals"):
-    for kind in ("&", "E", "E, unary", "&, binary"):
-        row(f"the same over what doesn't change, {DEEPEST - 10} deep: {within}: {kind}, --delta", DEEPEST - 10)(
-            lambda size, kind=kind, within=within: texts.higher(kind, 505, DEEP[within](size)))
-row("163 definitions, each 32 times ! the one before, and 3,171 actions, --recompute", 3_171,
-    "more than 200 structures")(
-    lambda size: texts.evaluated(163, 32, size))
+def in_branches(levels, times, leaf, path=""):
+    """So many files, each of which includes the next one so often; the first by a path."""
+    names = [f"f{k}" for k in range(levels)]
+    files = {"p": f'#include "{path}f0"\n' + TAIL, "i": EMPTY, f"f{levels}": leaf}
+    for name, inner in zip(names, [*names[1:], f"f{levels}"]):
+        files[name] = f'#include "{inner}"\n' * times
+    return ["analyze", "p", "i"], files
 
 
-def beside_rules(count, *parts):
-    """So many actions beside 60,000 closed rules."""
-    rules = "%r p() & q() & r() & s() ==> t()\n" * 12_000
-    preds = "".join(f"%p {name}()\n" for name in "pqrst")
-    return analyze(texts.with_actions(preds + rules, count, *parts))
-
-
-row("16,384 actions and 60,000 closed rules", 16_384)(lambda size: beside_rules(size, " { p() = q() } "))
-row("16,384 actions that update by turns, 60,000 closed rules", 16_384)(
-    lambda size: beside_rules(size, " { p() = q() } ", " { q() = p() } "))
-row("the same with focus", 16_384)(
-    lambda size: beside_rules(size, " %f { p() } { p() = q() } ", " %f { p() } { q() = p() } "))
-
-
-# ---- depth ----
-
-for kind in DEEP:
-    row(f"{DEEPEST} deep: {kind}, at each place", DEEPEST)(lambda size, kind=kind: deep(kind, PLACES, size))
-    row(f"{DEEPEST} deep: {kind}, in a definition, --delta", DEEPEST)(
-        lambda size, kind=kind: deep(kind, ["definition"], size, "--delta"))
-    row(f"{DEEPEST} deep: {kind}, at each place, without individuals, joined", DEEPEST)(
-        lambda size, kind=kind: (["join", "p", "i"], deep(kind, PLACES, size, initial=EMPTY)[1]))
-# as many quantifiers of 31 variables as a formula may have that differencing forms, which is 1,000 high
-for kind in (kind for kind in DEEP if "31" in kind):
-    highest = 95 if "used" in kind else 32
-    for place in PLACES:
-        row(f"{highest} deep: {kind}, in this place: {place}, --delta", highest)(
-            lambda size, kind=kind, place=place: deep(kind, [place], size, "--delta"))
-    for depth in (highest, DEEPEST):
-        row(f"{depth} deep: {kind}, in a definition that rests on an update with as many, --delta", depth)(
-            lambda size, kind=kind: texts.on_update(kind, size))
-    for mode in ("--delta", "--recompute"):
-        row(f"{DEEPEST} deep: {kind}, at each place, {mode}", DEEPEST)(
-            lambda size, kind=kind, mode=mode: deep(kind, PLACES, size, mode))
-for kind in BLOCKS:
-    row(f"source: {kind}, 199 deep", 199)(lambda size, kind=kind: texts.blocks(kind, size))
-for text in ("!", "(", "E(v) ", "TC(a, b)(c, d) ", "b() & ", "b() ? "):
-    row(f"program: 4 MiB of {text.strip()}", MIB4, "program: TooDeep")(
-        lambda size, text=text: analyze(fill(size, lambda n: text, "%p b()\n%%\n%action F() { %p ")))
-row("program: a set in 190 brackets", 190)(
-    lambda size: analyze("%s S {a}\n%s T " + "(" * size + "S" + ")" * size + "\n" + TAIL))
-for sign in "+-":
-    row(f"program: 4 MiB of {sign} of sets", MIB4)(
-        lambda size, sign=sign: analyze(fill(size, lambda n: sign + "S", "%s S {a}\n%s T S", "\n" + TAIL)))
-row("program: 99 foreach, one in the other", 99)(
-    lambda size: analyze("%s S {a}\n" + "foreach (z in S) { " * size + "%r 0 ==> 0 " + "} " * size + TAIL))
-row("program: 15 includes, of which each includes the next one twice", 15, tenth=5)(
-    lambda size: texts.included(size, "%r 0 ==> 0\n"))
-row("program: the same, over 4 MiB", 15, "program: TooLong", 11)(
-    lambda size: texts.included(size, "%r 0 ==> 0\n" * 200))
-row("program: 17 includes, one in the other", 17, "program: IncludeDepth", 17)(
-    lambda size: texts.included(size, "%r 0 ==> 0\n"))
+row("program: eight files, each of which includes the next one five times", 5, tenth=4)(
+    lambda size: in_branches(8, size, ""))
+row("program: 13 files, each of which includes the next one twice, by a path of 3,900 bytes", 13, tenth=10)(
+    lambda size: in_branches(size, 2, " ", "./" * 1_950))
 
 
 @row("a rule of 32 variables along a chain of 250 individuals", 32, tenth=4)
@@ -230,61 +181,25 @@ row("program: 60,000 members, each with a rule", 60_000)(
                          + "foreach (m in S) { %r 0 ==> 0 }\n" + TAIL))
 
 
-@row("program: one formula of 500,000 nodes", 250_000)
+@row("one node with 13 edges, each of which turns one of 13 flags, the last ones of eight words of 64", 13, tenth=9)
 def _(count):
-    line = "(" + "&".join(["1"] * 100) + ")"
-    groups = ["(" + "&".join([line] * 50) + ")"] * (count // 5000)
-    return analyze("%%\n%action Skip() { %p " + "&".join(groups) + " }\n%%\nL Skip() L\n")
-
-
-row("initial: structures without individuals, all equal", MIB4)(
-    lambda size: analyze(TAIL, fill(size, lambda n: "%n={}%p={}")))
-
-
-def bits_of(count, number, behind=" "):
-    return "".join(f"b{k}=1{behind}" for k in range(count) if number >> k & 1)
-
-
-row("initial: 60,000 structures, no two equal", 60_000)(
-    lambda size: analyze("".join(f"%p b{n}()" for n in range(16)) + TAIL,
-                         "".join("%n={}%p={" + bits_of(16, n) + "}" for n in range(size)),
-                         "--max-structures", "100000"))
-row("initial: entries of one structure of 256 individuals", MIB4)(
-    lambda size: analyze("%p x(v)\n" + TAIL, fill(size, lambda n: f"x={{u{n % 256}}}",
-                                                  "%n = {" + individuals(256) + "} %p = { ", "}")))
-
-
-@row("report: structures that no edge leaves", MIB64)
-def _(size):
-    count, left, parts = 0, size - 100, []
-    while left > 0:
-        parts.append("%n = {}\n%p = {\n" + bits_of(20, count, "\n") + "}\n")
-        left -= len(parts[-1])
-        count += 1
-    preds = "".join(f"%p b{n}()\n" for n in range(20))
-    report = f"tvla report 2\nnode L structures {count - 1}\n" + "".join(parts[:-1])
-    report += "node M structures 0\nend\n"
-    return check(preds + "%%\n%action Skip() { }\n%%\nM Skip() L\n", "", report)
-
-
-row("report: one-letter tokens that are no report", MIB64, "report: ReportForm at 1:15")(
-    lambda size: check(TAIL, EMPTY, "tvla report 2 " + "a " * ((size - 14) // 2)))
-row("report: 10,000 structures, each one's step listed", 10_000)(
-    lambda size: check("".join(f"%p b{n}()\n" for n in range(14)) + TAIL, "",
-                       f"tvla report 2\nnode L structures {size}\n"
-                       + "".join("%n = {}\n%p = {\n" + bits_of(14, n, "\n") + "}\n" for n in range(size))
-                       + "end\n"))
-row("report: 1,000,000 maps of items that aren't there", 1_000_000)(
-    lambda size: check(TAIL, EMPTY, "tvla report 2 node L structures 1 %n = {} %p = {} "
-                       + "".join(f"map initial {n} to 0 {{}} " for n in range(1, size + 1)) + "end"))
-
-
-@row("100,000 pairs", 100_000, "more than 100000 structures")
-def _(count):
-    preds = "".join(f"%p b{n}()\n" for n in range(17))
-    edges = "".join(f"L Turn(b{n}) L\n" for n in range(17))
+    flags = [64 * word + 63 - down for down in range(64) for word in range(8)][:count]
+    preds = "%s F {" + ", ".join(f"f{k}" for k in range(512)) + "}\nforeach (f in F) { %p f() }\n"
+    edges = "".join(f"L Turn(f{k}) L\n" for k in flags)
     text = preds + "%%\n%action Turn(b) { { b() = !b() } }\n%%\n" + edges
-    return analyze(text, EMPTY, "--max-structures", str(count))
+    return analyze(text, EMPTY, "--max-structures", "10000")
+
+
+@row(EXPLAIN + "a trail of 256 structures of 256 individuals and 488 unary predicates", 8, tenth=5)
+def _(bits):
+    preds = "%s M {" + ", ".join(f"m{k}" for k in range(480)) + "}\nforeach (m in M) { %p m(v) nonabs }\n"
+    preds += "".join(f"%p a{k}(v)\n" for k in range(8)) + "".join(f"%p c{k}()\n" for k in range(bits))
+    carries = (" & ".join(f"c{j}()" for j in range(k)) or "1" for k in range(bits))
+    updates = " ".join(f"c{k}() = c{k}() <-> !({carry})" for k, carry in enumerate(carries))
+    program = preds + "%%\n%action Count() { { " + updates + " } }\n%%\nL Count() L\n"
+    initial = "%n = {" + individuals(256) + "} %p = {" + names_apart(256, 8) + "}"
+    words, files = analyze(program, initial)
+    return ["structure", *words[1:], "L", str(2 ** bits - 1)], files
 
 
 def eight(count, more="", preds=8):
@@ -440,6 +355,9 @@ asked.add_argument("--other", default=os.environ.get("OTHER"))
 asked.add_argument("--list", action="store_true")
 asked = asked.parse_args()
 rows = [row for row in ROWS if not asked.wanted or any(word in row[0] for word in asked.wanted)]
+explain = os.path.abspath(os.environ.get("TVLA_EXPLAIN") or "crates/tvla_explain/out/tvla_explain")
+if not asked.list and not os.access(explain, os.X_OK):
+    rows = [row for row in rows if not row[0].startswith(EXPLAIN)]
 if asked.list:
     print(*(row[0] for row in rows), sep="\n")
     sys.exit(0)
@@ -469,13 +387,17 @@ def write(files):
     return sum(map(len, files.values()))
 
 
+def in_time(call):
+    return call.code >= 0 and not call.late
+
+
 def judge(name, words, call, ended, wanted, told):
     """What fails in this row, if anything does."""
     if call.late or call.code < 0 or ended != wanted:
         return f"{ended}, where {wanted} is wanted"
     if call.kilobytes and call.kilobytes > asked.megabytes * 1000:
         return f"over {asked.megabytes} MB"
-    if not other or told[0].late or told[0].code < 0:
+    if not told or not in_time(told[0]):
         return None
     theirs, other_ended = told
     if ended != other_ended or call.code != 4 and not filecmp.cmp("own.out", "other.out", shallow=False):
@@ -495,18 +417,19 @@ try:
     for name, make, size, wanted, tenth in rows:
         words, files = make(size)
         length = write(files)
-        call, ended = run(own, words, "own", asked.stack)
-        told = run(other, words, "other", "unlimited") if other else None
+        program = explain if name.startswith(EXPLAIN) else own
+        call, ended = run(program, words, "own", asked.stack)
+        told = run(other, words, "other", "unlimited") if other and program == own else None
         cells = [name, f"{length:,}", ended, f"{call.seconds:.2f}"]
         cells.append(f"{call.kilobytes / 1000:.0f}" if call.kilobytes else "-")
         fault = judge(name, words, call, ended, wanted, told)
         if asked.tenths:
             words, files = make(tenth)
             write(files)
-            few = run(own, words, "own", asked.stack)[0].seconds
+            few = run(program, words, "own", asked.stack)[0].seconds
             cells.append(f"{call.seconds / few:.1f}" if call.seconds >= 0.03 else "")
         if other:
-            cells.append(f"{told[0].seconds:.2f}" if told[0].code >= 0 and not told[0].late else told[1])
+            cells.append("" if not told else f"{told[0].seconds:.2f}" if in_time(told[0]) else told[1])
         print("| " + " | ".join(cells) + " |", flush=True)
         if fault:
             faults.append(f"{name}: {fault}")

@@ -1,7 +1,7 @@
 #!/usr/bin/env bash
 # bench/refuse.sh [flip] [check] [demo] [list] [join] [maps]: refused memory. The built program analyzes the flip and a
 # list, makes up a program and joins the list, and checks the reports of the flip and of the list, with the first growth
-# refused, then with the second, and so on until none is: each call has to end for want of memory or as it does with
+# refused, then with the second, and so on until none is: each call has to end for lack of memory or as it does with
 # enough, with the texts of that. STEP=N tries every Nth growth alone. A growth that is refused where words, files or
 # sinks of the operating system are asked may also end as a faulty command line, a read fault or a write fault. A C
 # compiler makes the library that refuses ($CC, or cc).

@@ -1,11 +1,12 @@
 #!/usr/bin/env bash
-# Builds a fast program of the sources as they stand, without a proof, to measure with: bench/unproved.sh PROGRAM. It is no program to
-# trust, and never the one that ./tvla takes. `rt try` compiles what it runs; a compiler put before the kit's keeps what it is given. From
+# Builds a fast program of the sources as they stand, without a proof: bench/unproved.sh PROGRAM [CRATE], of the crate tvla or the one
+# given. It is no program to trust: it serves to measure, and as .ci/build --unproved lays it for ./tvla and ./tvla-explain. `rt try` compiles what it runs; a compiler put before the kit's keeps what it is given. From
 # that the tests are taken out that a proof makes needless (of bounds, overflow and alignment, each before a trap), and the values that
 # locals are filled with; the rest is compiled as a proved program is. Counted in machine instructions it is within a few in a hundred of
-# the proved program, and has the names of functions for a profile (valgrind --tool=callgrind). It takes some six minutes.
+# the proved program, and has the names of functions for a profile (valgrind --tool=callgrind).
 set -eu
-[ $# = 1 ] || { echo "usage: bench/unproved.sh PROGRAM" >&2; exit 64; }
+[ $# = 1 ] || [ $# = 2 ] || { echo "usage: bench/unproved.sh PROGRAM [CRATE]" >&2; exit 64; }
+crate="${2:-tvla}"
 here="$(cd "$(dirname "$0")/.." && pwd)"
 kit="$(dirname "$(rt doc)")"
 to="$(cd "$(dirname "$1")" && pwd)/$(basename "$1")"
@@ -31,7 +32,7 @@ done
 exec "$kit/toolchain/bin/clang" "\$@"
 END
 chmod +x "$room/kit/toolchain/bin/clang"
-(cd "$here/crates/tvla" && "$room/kit/bin/rt" try --seconds 1 -- demo 1 >/dev/null 2>&1) || true
+(cd "$here/crates/$crate" && "$room/kit/bin/rt" try --seconds 1 -- demo 1 >/dev/null 2>&1) || true
 module="$(find "$room" -maxdepth 1 -name '*.bc' -size +1M | head -1)"
 [ -n "$module" ] || { echo "bench/unproved.sh: rt try compiled nothing" >&2; exit 1; }
 compile() { "$kit/toolchain/bin/clang" --target=x86_64-unknown-linux-gnu --no-default-config -x ir "$@"; }

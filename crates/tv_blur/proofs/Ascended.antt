@@ -7,7 +7,7 @@ use Rattle.std.proofs.lemmas.Bool.{cases_eq, cases_lt}
 use Rattle.std.proofs.lemmas.Cmp.{tied_itself}
 use Rattle.tv_kleene.specs.declared.K3.{K3}
 use Rattle.tv_embedding_laws.specs.LogicalStructure.{LogicalStructure}
-use Rattle.tv_struct.specs.StructureForm.{StructureForm, structure_of}
+use Rattle.tv_structure_form.specs.StructureForm.{StructureForm, structure_of}
 use Rattle.tv_blur.specs.Merged.{IsMerged}
 use Rattle.tv_blur.specs.Names.{canonical_name, name_cmp, name_cmp_total}
 use Rattle.tv_blur.specs.Blur.{FollowsNames, IsBlur, IsBlurred}

@@ -13,10 +13,11 @@ use Rattle.std.proofs.lemmas.Option.{slice_get_within}
 use Rattle.tv_kleene.specs.declared.K3.{K3}
 use Rattle.tv_kleene.specs.declared.K3.TheVariants.{No}
 use Rattle.tv_kleene.specs.Kleene.{LiesUnder}
-use Rattle.tv_struct.specs.TableForm.{AreIndividuals}
-use Rattle.tv_struct.specs.StructureForm.{StructureForm, structure_of, value_at, summary_at, arities_of}
-use Rattle.tv_struct.proofs.Library.{Contains-range, below-range, AreIndividuals-range}
-use Rattle.tv_struct.proofs.Library.{value_at-misfit}
+use Rattle.tv_structure_form.specs.TableForm.{AreIndividuals}
+use Rattle.tv_structure_form.specs.StructureForm.{StructureForm, structure_of, value_at, summary_at}
+use Rattle.tv_structure_form.specs.StructureForm.{arities_of}
+use Rattle.tv_structure_form.proofs.Library.{Contains-range, below-range, AreIndividuals-range}
+use Rattle.tv_structure_form.proofs.Library.{value_at-misfit}
 use Rattle.tv_blur.specs.declared.names.CanonicalNames.{CanonicalNames}
 use Rattle.tv_blur.specs.Merged.{IsJoin, IsMember, IsValueBelow, HasSummary, HasSeveral}
 use Rattle.tv_blur.specs.Names.{name_cmp, name_cmp_total}

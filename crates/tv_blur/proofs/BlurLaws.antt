@@ -13,15 +13,16 @@ use Rattle.tv_kleene.specs.declared.K3.TheVariants.{No}
 use Rattle.tv_row.proofs.Compare.{value_exact}
 use Rattle.tv_embedding_laws.specs.LogicalStructure.{LogicalStructure}
 use Rattle.tv_row.specs.Bits.{value_cmp}
-use Rattle.tv_struct.specs.TableForm.{HasEntry, AreIndividuals}
-use Rattle.tv_struct.specs.StructureForm.{StructureForm, IsStructure, structure_of, table_of, value_at}
-use Rattle.tv_struct.specs.StructureForm.{summary_at, arities_of}
-use Rattle.tv_struct.proofs.StructureLaws.{same_structure}
+use Rattle.tv_structure_form.specs.TableForm.{HasEntry, AreIndividuals}
+use Rattle.tv_structure_form.specs.StructureForm.{StructureForm, IsStructure, structure_of, table_of}
+use Rattle.tv_structure_form.specs.StructureForm.{value_at}
+use Rattle.tv_structure_form.specs.StructureForm.{summary_at, arities_of}
+use Rattle.tv_structure_form.proofs.StructureLaws.{same_structure}
 use Rattle.tv_blur.specs.Merged.{IsMember, IsValueBelow, HasSummary, HasSeveral, IsMerged}
 use Rattle.tv_blur.specs.Names.{canonical_name, name_cmp, name_cmp_total}
 use Rattle.tv_blur.specs.Blur.{FollowsNames, IsBlurBy, IsBlur, IsBlurred}
 use Rattle.tv_blur.specs.Laws.{BlurKeepsNames, BlurKeepsStable, BlurIsOne}
-use Rattle.tv_struct.proofs.Library.{Contains-range, below-range, All-individuals}
+use Rattle.tv_structure_form.proofs.Library.{Contains-range, below-range, All-individuals}
 use Rattle.tv_blur.proofs.MergedLaws.{IsJoin-one, IsJoin-same, keeps_stable}
 
 -- ---- names

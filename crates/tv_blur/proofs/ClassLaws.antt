@@ -7,8 +7,8 @@ use Rattle.std.proofs.lemmas.Option.{slice_get-get_or}
 use Rattle.std.proofs.lemmas.List.{get_or-map, length-map, get_or_default, get_or_past}
 use Rattle.std.proofs.lemmas.List.Elements.{All-nil}
 use Rattle.tv_model.specs.declared.program.Pred.{Pred}
-use Rattle.tv_struct.specs.StructureForm.{kept_from}
-use Rattle.tv_struct.proofs.OriginLaws.{kept_from_more, are_kept}
+use Rattle.tv_structure_form.specs.StructureForm.{kept_from}
+use Rattle.tv_structure_form.proofs.OriginLaws.{kept_from_more, are_kept}
 use Rattle.tv_blur.specs.Names.{is_abstraction}
 
 pub abstraction_more : (preds : List Pred) (i : ℕ) (d : Pred) → i < length preds

@@ -9,12 +9,12 @@ use Rattle.std.proofs.lemmas.List.Elements.{All-contains}
 use Rattle.std.proofs.lemmas.List.FromFn.{length-map-range_with_len, get_or-map-range_with_len}
 use Rattle.tv_kleene.specs.declared.K3.{K3}
 use Rattle.tv_kleene.specs.declared.K3.TheVariants.{No}
-use Rattle.tv_struct.specs.TableForm.{HasEntry, row_of}
-use Rattle.tv_struct.specs.StructureForm.{StructureForm, IsStructure, table_of, value_at, summary_at}
-use Rattle.tv_struct.specs.StructureForm.{arities_of, with_value, with_summary}
+use Rattle.tv_structure_form.specs.TableForm.{HasEntry, row_of}
+use Rattle.tv_structure_form.specs.StructureForm.{StructureForm, IsStructure, table_of, value_at, summary_at}
+use Rattle.tv_structure_form.specs.StructureForm.{arities_of, with_value, with_summary}
 use Rattle.tv_struct.specs.StructureRows.{HasArity, flag_value, row_at, summary_row, unary_row, with_row}
-use Rattle.tv_struct.specs.Laws.{WritesOneEntry, WritesOneSummary}
-use Rattle.tv_struct.proofs.StructureLaws.{writes_one_entry, writes_one_summary}
+use Rattle.tv_structure_form.specs.Laws.{WritesOneEntry, WritesOneSummary}
+use Rattle.tv_structure_form.proofs.StructureLaws.{writes_one_entry, writes_one_summary}
 use Rattle.tv_struct.proofs.Library.{get_or-row_at, length-unary_row, get_or-unary_row, entry-arity}
 use Rattle.tv_blur.specs.Merged.{IsJoin}
 use Rattle.tv_blur.specs.Classes.{ChangesOnly, HasMergedValues, HasMerged, AreClasses, IsMergedValue}

@@ -7,7 +7,7 @@ use Rattle.std.proofs.lemmas.List.{get_or_default}
 use Rattle.tv_kleene.specs.declared.K3.{K3}
 use Rattle.tv_kleene.specs.Kleene.{LiesUnder, join_of}
 use Rattle.tv_kleene.proofs.Lattice.{LiesUnder-trans, join-left, join-right, join_least}
-use Rattle.tv_struct.specs.StructureForm.{StructureForm, value_at}
+use Rattle.tv_structure_form.specs.StructureForm.{StructureForm, value_at}
 use Rattle.tv_blur.specs.Merged.{IsJoin}
 use Rattle.tv_blur.specs.Classes.{IsAmongFirst, IsAmongMembers, IsValueAmong, IsMergedValue, class_at}
 use Rattle.tv_blur.proofs.MergedLaws.{IsJoin-like}

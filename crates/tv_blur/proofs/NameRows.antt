@@ -11,7 +11,7 @@ use Rattle.tv_lemmas.proofs.Orderings.{then_decided}
 use Rattle.tv_kleene.specs.declared.K3.{K3}
 use Rattle.tv_kleene.specs.declared.K3.TheVariants.{No}
 use Rattle.tv_row.specs.Bits.{value_cmp}
-use Rattle.tv_struct.specs.StructureForm.{StructureForm, structure_of, value_at}
+use Rattle.tv_structure_form.specs.StructureForm.{StructureForm, structure_of, value_at}
 use Rattle.tv_struct.specs.StructureRows.{unary_row}
 use Rattle.tv_struct.proofs.Library.{get_or-unary_row, length-unary_row}
 use Rattle.tv_blur.specs.Names.{canonical_name, name_cmp}

@@ -13,7 +13,7 @@ use Rattle.tv_kleene.specs.declared.K3.TheVariants.{No, Half, Yes}
 use Rattle.tv_model.specs.declared.program.Pred.{Pred}
 use Rattle.tv_row.specs.Bits.{padded, value_cmp}
 use Rattle.tv_row.proofs.RowOps.{no_place, no_word}
-use Rattle.tv_struct.specs.StructureForm.{StructureForm, kept_from, structure_of, value_at}
+use Rattle.tv_structure_form.specs.StructureForm.{StructureForm, kept_from, structure_of, value_at}
 use Rattle.tv_struct.specs.StructureRows.{unary_row}
 use Rattle.tv_struct.proofs.Library.{get_or-unary_row}
 use Rattle.tv_blur.specs.Names.{is_abstraction, canonical_name, name_cmp}

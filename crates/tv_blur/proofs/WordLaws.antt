@@ -11,7 +11,7 @@ use Rattle.tv_kleene.specs.Kleene.{join_of}
 use Rattle.tv_row.specs.Bits.{padded, paired}
 use Rattle.tv_row.proofs.RowOps.{no_place, no_word}
 use Rattle.tv_row.proofs.WordOps.{length-paired, get_or-paired}
-use Rattle.tv_struct.specs.StructureForm.{StructureForm, value_at}
+use Rattle.tv_structure_form.specs.StructureForm.{StructureForm, value_at}
 use Rattle.tv_blur.specs.Merged.{IsJoin}
 use Rattle.tv_blur.specs.Classes.{IsAmongFirst, IsAmongMembers, class_at}
 use Rattle.tv_blur.proofs.MergedLaws.{IsJoin-like}

@@ -2,7 +2,7 @@
 use Rattle.std.specs.Prelude.{ℕ, ◌≡◌, ◌<◌, ◌↔◌, List, None}
 use Rattle.std.specs.declared.cmp.Ordering.TheVariants.{Less}
 use Rattle.tv_embedding_laws.specs.LogicalStructure.{LogicalStructure}
-use Rattle.tv_struct.specs.StructureForm.{StructureForm, structure_of, arities_of}
+use Rattle.tv_structure_form.specs.StructureForm.{StructureForm, structure_of, arities_of}
 use Rattle.tv_blur.specs.Merged.{IsMerged}
 use Rattle.tv_blur.specs.Names.{canonical_name, name_cmp}
 

@@ -4,8 +4,8 @@ use Rattle.std.specs.Prelude.{Contains, Option, IfSome, slice_index, slice_index
 use Rattle.std.specs.List.{AllZip}
 use Rattle.tv_kleene.specs.declared.K3.{K3}
 use Rattle.tv_kleene.specs.declared.K3.TheVariants.{No, Half, Yes}
-use Rattle.tv_struct.specs.TableForm.{HasEntry}
-use Rattle.tv_struct.specs.StructureForm.{StructureForm, table_of, value_at, summary_at, arities_of}
+use Rattle.tv_structure_form.specs.TableForm.{HasEntry}
+use Rattle.tv_structure_form.specs.StructureForm.{StructureForm, table_of, value_at, summary_at, arities_of}
 use Rattle.tv_blur.specs.Merged.{IsJoin}
 
 -- the members of the class at a place

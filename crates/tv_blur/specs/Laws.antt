@@ -5,7 +5,7 @@ use Rattle.tv_embedding_laws.specs.LogicalStructure.{LogicalStructure}
 use Rattle.tv_embedding_laws.specs.Embedding.{Embeds}
 use Rattle.tv_stable_laws.specs.Stable.{IsStable}
 use Rattle.tv_stable_laws.specs.Laws.{IsPlainRule}
-use Rattle.tv_struct.specs.StructureForm.{StructureForm, IsStructure, structure_of}
+use Rattle.tv_structure_form.specs.StructureForm.{StructureForm, IsStructure, structure_of}
 use Rattle.tv_blur.specs.Merged.{IsMerged}
 use Rattle.tv_blur.specs.Names.{canonical_name}
 use Rattle.tv_blur.specs.Blur.{IsBlurBy, IsBlur, IsBlurred}

@@ -8,7 +8,7 @@ use Rattle.tv_model.specs.declared.program.Pred.{Pred}
 use Rattle.tv_model.specs.declared.program.Vocab.{Vocab}
 use Rattle.tv_embedding_laws.specs.LogicalStructure.{LogicalStructure}
 use Rattle.tv_row.specs.Bits.{rank, value_cmp}
-use Rattle.tv_struct.specs.StructureForm.{kept_from}
+use Rattle.tv_structure_form.specs.StructureForm.{kept_from}
 
 -- the abstraction tells individuals apart by this predicate
 abbrev pub is_abstraction : Pred → Bool

@@ -5,7 +5,7 @@ ghost use Rattle.std.specs.Prelude.{nat_lt, slice_index_or, take, All, MatchOpti
 ghost use Rattle.std.specs.declared.cmp.Ordering.TheVariants.{Equal, Greater};
 ghost use Rattle.std.specs.Ordering.{ordering_then};
 ghost use Rattle.tv_kleene.specs.declared.K3.TheVariants.{No};
-ghost use Rattle.tv_struct.specs.StructureForm.{IsOver, arities_of, structure_of};
+ghost use Rattle.tv_structure_form.specs.StructureForm.{IsOver, arities_of, structure_of};
 ghost use Rattle.tv_struct.specs.StructureRows.{unary_row};
 ghost use Rattle.tv_blur.specs.Names.{abstraction_preds, is_abstraction};
 ghost use Rattle.tv_blur.specs.Rising.{AddsRise, AddsRises, Falls, order_to_next, values_to_next};
@@ -68,7 +68,8 @@ fn next_told(values: &Row, from: u32) -> Option<u32>
     if u + 1 < size { Some(u) } else { None }
 }
 
-/// The same of each individual but the last.
+/// Tells how each individual's values compare with the next one's, unless their names differ already. False
+/// where names fall.
 fn add_rises(rises: &mut Row, values: &Row) -> bool
     requires { length rises.old ≡ length values.now - 1 }
     ensures { MatchBool result (AddsRises values.now (length rises.old) rises.old rises.new)
@@ -121,7 +122,8 @@ fn next_in(values: Word, size: u32, from: u32) -> Option<u32>
     if u + 1 < size { Some(u) } else { None }
 }
 
-/// The same of each of so many individuals but the last.
+/// Tells how the values of each of so many individuals compare with the next one's, unless their names
+/// differ already. Nothing where names fall.
 #[inline(always)]
 fn with_rises(rises: Word, values: Word, size: u32) -> Option<Word>
     requires size { size ≤ 64 }
@@ -188,7 +190,7 @@ fn are_ascending(vocab: &Vocab, s: &Structure) -> bool
     are_ascending_by_rows(vocab, s)
 }
 
-/// The same, row by row.
+/// Whether the individuals have different names and stand in their order, told row by row.
 #[inline(never)]
 fn are_ascending_by_rows(vocab: &Vocab, s: &Structure) -> bool
     requires over { IsOver vocab.now s.now }

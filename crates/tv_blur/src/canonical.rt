@@ -2,7 +2,7 @@
 
 ghost use Rattle.std.specs.Prelude.{◌≡◌, IfOk};
 ghost use Rattle.tv_embedding_laws.specs.Embedding.{IsEmbedded};
-ghost use Rattle.tv_struct.specs.StructureForm.{IsOver, IsStructure, structure_of};
+ghost use Rattle.tv_structure_form.specs.StructureForm.{IsOver, IsStructure, structure_of};
 ghost use Rattle.tv_blur.specs.Names.{abstraction_preds};
 ghost use Rattle.tv_blur.specs.Blur.{IsBlur, IsBlurred};
 
@@ -20,7 +20,7 @@ use tv_struct::Structure;
 /// lexicographic order of their names, with `No < Half < Yes`, and none is marked.
 ///
 /// `s` embeds in its blur, and the blur of a blurred structure is the structure itself. The only error
-/// is want of memory.
+/// is lack of memory.
 pub fn blur(alloc: Global, vocab: &Vocab, s: &Structure) -> Result<Structure, AllocError>
     requires { IsOver vocab.now s.now }
     ensures exact { IfOk result (IsBlur (abstraction_preds vocab.now) s.now) }

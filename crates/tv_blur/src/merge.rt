@@ -1,7 +1,7 @@
 //! The structure in which the individuals of each class are one.
 
 ghost use Rattle.std.specs.Prelude.{◌≡◌, ◌<◌, ℕ, None, All, false, length, IfOk};
-ghost use Rattle.tv_struct.specs.StructureForm.{IsStructure, StructureForm, arities_of, summary_at};
+ghost use Rattle.tv_structure_form.specs.StructureForm.{IsStructure, StructureForm, arities_of, summary_at};
 ghost use Rattle.tv_struct.specs.StructureRows.{HasArity, summary_row};
 ghost use Rattle.tv_blur.specs.Classes.{AreClasses, ChangesOnly, FitWord, HasMergedValues, HasMerged};
 ghost use Rattle.tv_blur.specs.Classes.{IsBlank, IsBlankFrom};
@@ -121,7 +121,7 @@ fn put_row(t: &mut Structure, s: &Structure, classes: &[Class], p: PredId)
     }
 }
 
-/// The same, where values stand in one word.
+/// Puts the merged values of a unary predicate, which stand in one word, for each class.
 fn put_word(t: &mut Structure, s: &Structure, classes: &[Class], p: PredId)
     requires classes { AreClasses s.now classes.now }
     requires fit { FitWord s.now classes.now }
@@ -155,7 +155,7 @@ fn put_rows(t: &mut Structure, s: &Structure, classes: &[Class], p: PredId)
     }
 }
 
-/// The same, row by row.
+/// Puts the merged values of a binary predicate for each two classes, row by row.
 fn put_more_rows(t: &mut Structure, s: &Structure, classes: &[Class], p: PredId)
     requires classes { AreClasses s.now classes.now }
     requires size { t.old.size ≡ length classes.now }
@@ -170,7 +170,7 @@ fn put_more_rows(t: &mut Structure, s: &Structure, classes: &[Class], p: PredId)
     }
 }
 
-/// The same, where values stand in one word.
+/// Puts the merged values of a binary predicate for each two classes, where each row is one word.
 fn put_words(t: &mut Structure, s: &Structure, classes: &[Class], p: PredId)
     requires classes { AreClasses s.now classes.now }
     requires fit { FitWord s.now classes.now }

@@ -4,7 +4,7 @@ ghost use Rattle.std.specs.Prelude.{◌≡◌, ◌<◌, ℕ, [], ◌∷◌, All,
 ghost use Rattle.std.specs.Prelude.{length, slice_get};
 ghost use Rattle.tv_kleene.specs.declared.K3.TheVariants.{No};
 ghost use Rattle.tv_row.specs.Bits.{value_cmp};
-ghost use Rattle.tv_struct.specs.StructureForm.{IsOver, arities_of, value_at};
+ghost use Rattle.tv_structure_form.specs.StructureForm.{IsOver, arities_of, value_at};
 ghost use Rattle.tv_struct.specs.StructureRows.{HasArity};
 ghost use Rattle.tv_blur.specs.Names.{abstraction_preds, is_abstraction, name_cmp};
 ghost use Rattle.tv_blur.specs.Naming.{AreNames, AddsRow, HoldsNames, TellNames, canonical_name_in};

@@ -2,7 +2,7 @@
 
 ghost use Rattle.std.specs.Prelude.{◌≡◌, ◌<◌, ◌≤◌, ℕ, [], ◌∷◌, length, All, slice_index_or, slice_set};
 ghost use Rattle.tv_kleene.specs.declared.K3.TheVariants.{No};
-ghost use Rattle.tv_struct.specs.StructureForm.{value_at};
+ghost use Rattle.tv_structure_form.specs.StructureForm.{value_at};
 ghost use Rattle.tv_struct.specs.StructureRows.{HasArity};
 ghost use Rattle.tv_blur.specs.Classes.{IsAmongMembers, class_at};
 ghost use Rattle.tv_blur.specs.Merged.{IsJoin};

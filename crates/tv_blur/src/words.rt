@@ -3,7 +3,7 @@
 ghost use Rattle.std.specs.Prelude.{◌≡◌, ◌≢◌, ◌<◌, ◌≤◌, ℕ, [], ◌∷◌, length, All, IsTrue, slice_index_or};
 ghost use Rattle.std.specs.Prelude.{slice_set, MatchBool};
 ghost use Rattle.tv_kleene.specs.declared.K3.TheVariants.{No};
-ghost use Rattle.tv_struct.specs.StructureForm.{value_at};
+ghost use Rattle.tv_structure_form.specs.StructureForm.{value_at};
 ghost use Rattle.tv_struct.specs.StructureRows.{HasArity};
 ghost use Rattle.tv_blur.specs.Classes.{FitWord, IsAmongMembers, class_at};
 ghost use Rattle.tv_blur.specs.Merged.{IsJoin};
@@ -114,7 +114,7 @@ fn merged_word(word: Word, classes: &[Class]) -> Word
     merged
 }
 
-/// The same as a row.
+/// For each class, the join of the word's values at its members, as a row.
 pub fn merged_in(word: Word, classes: &[Class]) -> Row
     requires some_classes { 0 < length classes.now }
     requires few { length classes.now ≤ 64 }

@@ -14,18 +14,18 @@ use Rattle.tv_stable_laws.specs.Laws.{IsPlainRule}
 use Rattle.tv_stable_laws.specs.Stable.{HasNoStable, IsStable, IsStableUnder}
 use Rattle.tv_eval.specs.declared.evaluator.Evaluator.{Evaluator}
 use Rattle.tv_rules.specs.EntryForms.{rules_of}
-use Rattle.tv_struct.specs.StructureForm.{StructureForm, IsStructure, structure_of}
+use Rattle.tv_structure_form.specs.StructureForm.{StructureForm, IsStructure, structure_of}
 use Rattle.tv_coerce.specs.declared.noted.Ask.{Ask}
 use Rattle.tv_coerce.specs.Attempts.{AreAsked, IsAskedFor, IsSharper}
 use Rattle.tv_coerce.specs.Changes.{Has, IsLowered, IsOpen, IsPlace}
 use Rattle.tv_rules.specs.Kin.{IsKin}
 use Rattle.tv_coerce.specs.RuleSets.{HasFewer, HasLost, IsIn, IsStableBut, SeesSome}
 use Rattle.tv_coerce.specs.Sharpened.{IsSharpened}
-use Rattle.tv_coerce.specs.Trying.{HasHopeless, IsForcedBy, IsFound, StaysBound, rule_at}
+use Rattle.tv_coerce.specs.Trying.{HasHopeless, IsForcedBy, IsFound, rule_at}
 use Rattle.tv_coerce.proofs.Found.{rule-is}
 use Rattle.tv_coerce.proofs.OnTheWay.{rule-at, stable-at}
 use Rattle.tv_coerce.proofs.Touching.{stable-without, stays-stable, touched-lowered}
-use Rattle.tv_coerce.proofs.Walking.{rule-found, stays-on}
+use Rattle.tv_coerce.proofs.Walking.{rule-found}
 
 -- ---- the rules that wait are tried
 
@@ -33,7 +33,7 @@ use Rattle.tv_coerce.proofs.Walking.{rule-found, stays-on}
 pub record AttemptedUpTo (rules : List RuleForm) (s : StructureForm) (waiting : List Bool) (old now : Evaluator) : Type 0 where
   pub count : length waiting ≡ length rules
   pub rest : IsStableBut rules waiting s
-  pub stays : StaysBound s old now
+  pub same : now ≡ old
 
 flag-is : (set : List Bool) (m : ℕ) → IsIn set m ⊎ ¬ IsIn set m
 flag-is set m = at (get_or set m false)
@@ -44,7 +44,7 @@ flag-is set m = at (get_or set m false)
 
 module _ (closed : List Rule) (s : StructureForm) (n : ℕ) (waiting mid : List Bool) (old now new : Evaluator)
     (so_far : AttemptedUpTo (rules_of closed) s waiting old now) (below : n < length waiting) (lost : HasLost n waiting mid)
-    (stays : StaysBound s now new) where
+    (same : new ≡ now) where
   within : n < length (rules_of closed)
   within = omega (arith, below, so_far.count)
 
@@ -55,7 +55,7 @@ module _ (closed : List Rule) (s : StructureForm) (n : ℕ) (waiting mid : List 
   attempted-more asks kin last is none listed fewer = record {
     count = fewer.count ∙ lost.count ∙ so_far.count;
     rest = λ m rule at out. one m rule at out (flag-is mid m);
-    stays = stays-on s old now new so_far.stays stays;
+    same = same ∙ so_far.same;
   }
     where
       stable : (m : ℕ) (rule : RuleForm) → IsKin closed n m → slice_get (rules_of closed) m ≡ Some rule → IsStableUnder (structure_of s) rule

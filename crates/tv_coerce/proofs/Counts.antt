@@ -13,7 +13,7 @@ use Rattle.tv_model.specs.Truth.{Assignment, put}
 use Rattle.tv_coerce_members.specs.Members.{AreSteps, IsSteppedBy, MemberForm, is_literal}
 use Rattle.tv_coerce_members.specs.declared.levels.Step.{Step}
 use Rattle.tv_eval_laws.specs.Value.{value}
-use Rattle.tv_struct.specs.StructureForm.{StructureForm, structure_of}
+use Rattle.tv_structure_form.specs.StructureForm.{StructureForm, structure_of}
 use Rattle.tv_coerce.specs.Counting.{CountTells, IsAt, IsBarring, IsCounted, IsIdle, IsReadOf, Lacks}
 use Rattle.tv_coerce.specs.Counting.{count_of, counted}
 use Rattle.tv_coerce.specs.Steps.{CountedBy, IdleStep, LacksStep}

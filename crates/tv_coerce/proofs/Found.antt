@@ -5,7 +5,7 @@ use Rattle.std.proofs.lemmas.Option.{same_Some}
 use Rattle.tv_model.specs.Program.{RuleForm}
 use Rattle.tv_model.specs.declared.program.Rule.{Rule}
 use Rattle.tv_rules.specs.EntryForms.{rules_of}
-use Rattle.tv_struct.specs.StructureForm.{StructureForm}
+use Rattle.tv_structure_form.specs.StructureForm.{StructureForm}
 use Rattle.tv_coerce.specs.Trying.{rule_at}
 use Rattle.tv_coerce.proofs.Walking.{rule-found}
 

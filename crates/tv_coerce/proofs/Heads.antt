@@ -19,10 +19,10 @@ use Rattle.tv_stable_laws.specs.Stable.{IsHeadMet}
 use Rattle.tv_stable_laws.proofs.Heads.{wanted, wanted-definite, signed-wanted, signed-half, met-value}
 use Rattle.tv_stable_laws.proofs.Heads.{same-no, same-half}
 use Rattle.tv_eval.specs.AssignmentForm.{IsAssigned, assignment_of, individual_for}
-use Rattle.tv_struct.specs.StructureForm.{StructureForm, structure_of, summary_at, value_at}
-use Rattle.tv_struct.specs.TableForm.{AreIndividuals}
+use Rattle.tv_structure_form.specs.StructureForm.{StructureForm, structure_of, summary_at, value_at}
+use Rattle.tv_structure_form.specs.TableForm.{AreIndividuals}
 use Rattle.tv_struct.specs.declared.table.Tuple.{Tuple}
-use Rattle.tv_struct.proofs.Library.{All-individuals, Contains-range}
+use Rattle.tv_structure_form.proofs.Library.{All-individuals, Contains-range}
 use Rattle.tv_coerce.specs.Touched.{IsChangeOf}
 use Rattle.tv_coerce.specs.Trying.{IsOnSummary}
 use Rattle.tv_coerce.specs.declared.change.Change.TheVariants.{Value}

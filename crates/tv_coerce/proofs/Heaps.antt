@@ -1,7 +1,7 @@
 -- Coerce loses no heap.
 use Rattle.std.proofs.Common.{Some, None}
 use Rattle.tv_stable_laws.proofs.InHeaps.{sharpening_loses_no_heap}
-use Rattle.tv_struct.specs.StructureForm.{structure_of}
+use Rattle.tv_structure_form.specs.StructureForm.{structure_of}
 use Rattle.tv_coerce.specs.Laws.{CoercingLosesNoHeap}
 
 pub coercing_loses_no_heap : CoercingLosesNoHeap

@@ -9,7 +9,7 @@ use Rattle.tv_kleene.specs.declared.K3.TheVariants.{No, Half, Yes}
 use Rattle.tv_model.specs.Truth.{Assignment}
 use Rattle.tv_coerce_members.specs.Members.{MemberForm}
 use Rattle.tv_eval_laws.specs.Value.{value}
-use Rattle.tv_struct.specs.StructureForm.{StructureForm, structure_of}
+use Rattle.tv_structure_form.specs.StructureForm.{StructureForm, structure_of}
 use Rattle.tv_coerce.specs.Counting.{IsSome, Lacks, LacksTwo}
 use Rattle.tv_coerce.specs.Lacking.{IsLacking, lacking_more, lacking_too}
 use Rattle.tv_coerce.specs.declared.counting.Missing.{Missing}

@@ -10,16 +10,17 @@ use Rattle.tv_model.specs.declared.formula.PredId.{PredId}
 use Rattle.tv_embedding_laws.specs.LogicalStructure.{LogicalStructure}
 use Rattle.tv_embedding_laws.specs.Embedding.{IsBelow, IsBelowByValues}
 use Rattle.tv_embedding_laws.proofs.EmbeddingLaws.{EmbedsOn-id, IsBelow-values}
-use Rattle.tv_struct.specs.Halves.{half_count, half_of, half_of_flag}
-use Rattle.tv_struct.specs.StructureForm.{StructureForm, IsStructure, table_of, structure_of, value_at}
-use Rattle.tv_struct.specs.StructureForm.{summary_at, with_value, with_summary}
-use Rattle.tv_struct.specs.TableForm.{HasEntry}
+use Rattle.tv_structure_form.specs.Halves.{half_count, half_of, half_of_flag}
+use Rattle.tv_structure_form.specs.StructureForm.{StructureForm, IsStructure, table_of, structure_of}
+use Rattle.tv_structure_form.specs.StructureForm.{value_at}
+use Rattle.tv_structure_form.specs.StructureForm.{summary_at, with_value, with_summary}
+use Rattle.tv_structure_form.specs.TableForm.{HasEntry}
 use Rattle.tv_struct.specs.TupleForm.{tuple_of}
-use Rattle.tv_struct.specs.Laws.{WritesOneEntry, WritesOneSummary}
+use Rattle.tv_structure_form.specs.Laws.{WritesOneEntry, WritesOneSummary}
 use Rattle.tv_struct.specs.declared.table.Tuple.{Tuple}
-use Rattle.tv_struct.proofs.HalfLaws.{entry_halves, summary_halves, entry_below, summary_below}
-use Rattle.tv_struct.proofs.HalfLaws.{tuples_decided}
-use Rattle.tv_struct.proofs.StructureLaws.{writes_one_entry, writes_one_summary}
+use Rattle.tv_structure_form.proofs.HalfLaws.{entry_halves, summary_halves, entry_below, summary_below}
+use Rattle.tv_structure_form.proofs.HalfLaws.{tuples_decided}
+use Rattle.tv_structure_form.proofs.StructureLaws.{writes_one_entry, writes_one_summary}
 use Rattle.tv_coerce.specs.Changes.{Has, IsLowered}
 use Rattle.tv_coerce.specs.declared.change.Change.TheVariants.{Value, Ordinary}
 

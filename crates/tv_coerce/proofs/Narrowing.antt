@@ -28,7 +28,7 @@ use Rattle.tv_coerce_members.specs.declared.levels.Step.{Step}
 use Rattle.tv_eval_laws.specs.Value.{value}
 use Rattle.tv_eval_laws.proofs.Agreed.{only_free_variables_matter}
 use Rattle.tv_eval.specs.Along.{IsWordAlong}
-use Rattle.tv_struct.specs.StructureForm.{StructureForm, arities_of, structure_of}
+use Rattle.tv_structure_form.specs.StructureForm.{StructureForm, arities_of, structure_of}
 use Rattle.tv_coerce.specs.Counting.{AreLeft, AreOf, CountTells, IsAt, IsBarring, IsBest, IsIdle}
 use Rattle.tv_coerce.specs.Counting.{IsLater, IsNarrowed, IsSeen}
 use Rattle.tv_coerce.specs.Counting.{Lacks, Tells, counted, members_in, variable_at, variables_in}

@@ -13,14 +13,14 @@ use Rattle.tv_rules.specs.Closing.{negated_head}
 use Rattle.tv_rules.specs.EntryForms.{rules_of}
 use Rattle.tv_rules.specs.Kin.{IsKin, skip_of}
 use Rattle.tv_stable_laws.specs.Stable.{IsHeadMet}
-use Rattle.tv_struct.specs.StructureForm.{StructureForm, structure_of}
+use Rattle.tv_structure_form.specs.StructureForm.{StructureForm, structure_of}
 use Rattle.tv_coerce.specs.Counting.{IsSome, LacksTwo, members_in}
 use Rattle.tv_coerce.specs.Lacking.{CanValue, CanValueOne, IsLacking, IsOnly}
 use Rattle.tv_coerce.specs.Ready.{CanCoerce}
 use Rattle.tv_coerce.specs.Trying.{ArePlaced, CanTry, IsNotedOf, IsTold, IsTrial, rule_at, trial_rule}
 use Rattle.tv_coerce.specs.Walks.{AreMet}
 use Rattle.tv_coerce.specs.declared.counting.Missing.TheVariants.{Nothing}
-use Rattle.tv_coerce.specs.declared.noted.Noted.{Noted}
+use Rattle.tv_coerce.specs.declared.noted.Queue.{Queue}
 use Rattle.tv_coerce.specs.declared.trial.Outcome.{Outcome}
 use Rattle.tv_coerce.specs.declared.trial.Trial.{Trial}
 use Rattle.tv_coerce.proofs.Placing.{denied-unmet, form-back, idle-met, kin-back, member-fits, member-free}
@@ -83,7 +83,7 @@ module _ (trial : Trial) (is : IsTrial trial) (places : List (Option ℕ)) (room
     (placed : ArePlaced trial.structure.now.size (trial_rule trial) [] places) where
   -- all members are Yes: the head of no rule can be met
   pub told-all : IsLacking trial.structure.now (assignment_of places) (members_in trial) Nothing
-      → (old new : Noted) (outcome : Outcome)
+      → (old new : Queue) (outcome : Outcome)
       → IsNotedOf trial.structure.now (assignment_of places) trial.number (trial_rule trial).head old new outcome
       → IsTold trial (AreMet trial (assignment_of places)) old new outcome
   told-all all old new outcome noted =
@@ -113,7 +113,7 @@ module _ (trial : Trial) (is : IsTrial trial) (places : List (Option ℕ)) (room
     none-denies none n kin body = absurd (other-never n kin (none n kin) body)
 
     pub told-one : (n : ℕ) → IsKin trial.closed.now trial.number n → skip_of trial.closed.now n ≡ k
-        → (old new : Noted) (outcome : Outcome)
+        → (old new : Queue) (outcome : Outcome)
         → IsNotedOf trial.structure.now (assignment_of places) n (rule_at trial.closed.now n).head old new outcome
         → IsTold trial (AreMet trial (assignment_of places)) old new outcome
     told-one n kin denies old new outcome noted =

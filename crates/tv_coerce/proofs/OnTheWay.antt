@@ -12,7 +12,7 @@ use Rattle.tv_embedding_laws.specs.Embedding.{IsBelow}
 use Rattle.tv_embedding_laws.proofs.EmbeddingLaws.{EmbedsOn-id, EmbedsOn-compose}
 use Rattle.tv_stable_laws.specs.Laws.{IsPlainRule}
 use Rattle.tv_stable_laws.specs.Stable.{IsStableUnder, IsStable, HasNoStable}
-use Rattle.tv_struct.specs.StructureForm.{StructureForm, IsStructure, structure_of}
+use Rattle.tv_structure_form.specs.StructureForm.{StructureForm, IsStructure, structure_of}
 use Rattle.tv_eval.specs.ScratchForm.{ScratchForm, HasScratchFor}
 use Rattle.tv_coerce.specs.Attempts.{AreAsked, IsSharper, IsOnTheWay, IsEnd}
 use Rattle.tv_coerce.specs.Coerced.{IsCoercedTable, CoercesTo}

@@ -10,9 +10,10 @@ use Rattle.tv_embedding_laws.specs.Embedding.{IsBelow, IsBelowByValues}
 use Rattle.tv_embedding_laws.specs.LogicalStructure.{LogicalStructure}
 use Rattle.tv_embedding_laws.proofs.EmbeddingLaws.{EmbedsOn-id, IsBelow-values}
 use Rattle.tv_stable_laws.specs.Stable.{IsStable}
-use Rattle.tv_struct.specs.StructureForm.{StructureForm, IsStructure, structure_of, arities_of, summary_at}
-use Rattle.tv_struct.proofs.Library.{Contains-range, All-individuals}
-use Rattle.tv_struct.proofs.StructureLaws.{same_structure}
+use Rattle.tv_structure_form.specs.StructureForm.{StructureForm, IsStructure, structure_of, arities_of}
+use Rattle.tv_structure_form.specs.StructureForm.{summary_at}
+use Rattle.tv_structure_form.proofs.Library.{Contains-range, All-individuals}
+use Rattle.tv_structure_form.proofs.StructureLaws.{same_structure}
 use Rattle.tv_coerce.specs.Coerced.{CoercesTo}
 use Rattle.tv_coerce.specs.Laws.{CoercingIsDetermined}
 

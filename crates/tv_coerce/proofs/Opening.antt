@@ -12,8 +12,8 @@ use Rattle.tv_model.proofs.Lists.{Contains-cases, pushed-cases}
 use Rattle.tv_row.specs.Bits.{greatest_in}
 use Rattle.tv_coerce_members.specs.Members.{MemberForm}
 use Rattle.tv_eval.specs.AssignmentForm.{assignment_of}
-use Rattle.tv_struct.specs.StructureForm.{StructureForm, structure_of}
-use Rattle.tv_struct.proofs.Library.{below-range}
+use Rattle.tv_structure_form.specs.StructureForm.{StructureForm, structure_of}
+use Rattle.tv_structure_form.proofs.Library.{below-range}
 use Rattle.tv_coerce.specs.Counting.{AreLeft, AreOf, IsAt, IsCounted, IsFrom, IsIdle, IsWalkStart, Lacks}
 use Rattle.tv_coerce.specs.Counting.{counted}
 use Rattle.tv_coerce.specs.Counting.{IsLater, IsSome, Tells, members_in}

@@ -30,7 +30,7 @@ use Rattle.tv_rules.proofs.Carried.{conjuncts_carry_formulas}
 use Rattle.tv_rules.proofs.Ranges.{free-in_range}
 use Rattle.tv_eval.specs.Formulas.{nesting}
 use Rattle.tv_eval.specs.ScratchForm.{ScratchForm, HasScratchFor}
-use Rattle.tv_struct.specs.StructureForm.{StructureForm, arities_of, structure_of}
+use Rattle.tv_structure_form.specs.StructureForm.{StructureForm, arities_of, structure_of}
 use Rattle.tv_rules.specs.Kin.{IsKin, IsTriedBy, skip_of}
 use Rattle.tv_rules.specs.Waiting.{IsAllBut, forms_in}
 use Rattle.tv_coerce_members.specs.Members.{IsSteppedBy, is_literal, members_of}

@@ -18,11 +18,15 @@ use Rattle.tv_coerce_members.specs.declared.members.Member.{Member}
 use Rattle.tv_eval_laws.specs.Value.{value, same_value}
 use Rattle.tv_eval.specs.Along.{IsWordAlong, IsWordOf}
 use Rattle.tv_eval.specs.AssignmentForm.{IsAssigned, assignment_of, individual_for}
+use Rattle.tv_eval.specs.Bound.{bound_structure}
 use Rattle.tv_eval.specs.Formulas.{AreAssigned}
+use Rattle.tv_eval.specs.declared.evaluator.Evaluator.{Evaluator}
 use Rattle.tv_eval.proofs.AlongLaws.{atom_one, atom_two, put_same, put_other, same_two, same_turned}
 use Rattle.tv_eval.proofs.AlongWords.{same-word}
-use Rattle.tv_struct.specs.StructureForm.{StructureForm, structure_of, value_at}
+use Rattle.tv_structure_form.specs.StructureForm.{StructureForm, structure_of, value_at}
+use Rattle.tv_coerce.specs.CountedWords.{IsAlong}
 use Rattle.tv_coerce.specs.Counting.{IsReadOf, signed_value}
+use Rattle.tv_coerce.specs.declared.places.Along.{Along}
 use Rattle.tv_coerce.proofs.Heads.{placed}
 
 -- ---- the member of a step
@@ -34,16 +38,23 @@ same-member ms k m n there at P = subst P (same_Some m n (sym there ∙ at))
 pub indexed-member : (xs ms : List Member) (k : ℕ) (x : Member) (m : MemberForm) → xs ≡ ms → x ≡ get_or xs k x
     → slice_get (members_of ms) k ≡ Some m → member_of (get_or xs k x) ≡ m
 indexed-member xs ms k x m same is there =
-    let within : k < length xs = omega (arith, slice_get_within (members_of ms) k m there, length-map ms member_of, ap length same)
+    let within : k < length xs = omega (
+      arith,
+      slice_get_within (members_of ms) k m there,
+      length-map ms member_of,
+      ap length same,
+    )
     in let found : slice_get ms k ≡ Some x
     = ap (λ ys. slice_get ys k) (sym same) ∙ slice_get_read xs (length xs) k x refl within is
-    in ap member_of (sym is) ∙ same_Some (member_of x) m (sym (slice_get-map member_of ms k ∙ ap (option_map member_of) found) ∙ there)
+    in ap member_of (sym is) ∙ same_Some (member_of x) m (sym (slice_get-map member_of ms k ∙ ap (option_map
+    member_of) found) ∙ there)
 
 -- the member at a number, as it is read
 pub member-at : (xs ms : List Member) (k : ℕ) (x : Member) → xs ≡ ms → k < length xs
     → slice_get (members_of ms) k ≡ Some (member_of (get_or xs k x))
 member-at xs ms k x same within =
-    slice_get-map member_of ms k ∙ ap (option_map member_of) (ap (λ ys. slice_get ys k) (sym same) ∙ slice_get-get_or xs k x within)
+    slice_get-map member_of ms k ∙ ap (option_map member_of) (ap (λ ys. slice_get ys k) (sym same) ∙
+    slice_get-get_or xs k x within)
 
 -- ---- a literal, which may be negated
 
@@ -65,10 +76,13 @@ pub other-within : (size : ℕ) (places : List (Option ℕ)) (flag : Bool) (f g 
 other-within size places flag f g v x assigned is apart free =
     placed size (individual_for places x) (assigned x (apart, free-signed flag f g x is free))
 
-pub same-within : (v size : ℕ) (places : List (Option ℕ)) (flag : Bool) (f : Form) (x : ℕ) → AreAssigned size places (FExists v f)
+pub same-within : (v size : ℕ) (places : List (Option ℕ)) (flag : Bool) (f : Form) (x : ℕ) → AreAssigned size places
+    (FExists v f)
     → (f ≡ signed flag (FSame v x)) ⊎ (f ≡ signed flag (FSame x v)) → x ≢ v → assignment_of places x < size
-same-within v size places flag f x assigned (inl e) apart = other-within size places flag f (FSame v x) v x assigned e apart (inr refl)
-same-within v size places flag f x assigned (inr e) apart = other-within size places flag f (FSame x v) v x assigned e apart (inl refl)
+same-within v size places flag f x assigned (inl e) apart = other-within size places flag f (FSame v x) v x assigned
+    e apart (inr refl)
+same-within v size places flag f x assigned (inr e) apart = other-within size places flag f (FSame x v) v x assigned
+    e apart (inl refl)
 
 -- an individual put for the variable
 pub with-assigned : (size : ℕ) (old new : List (Option ℕ)) (v u : ℕ) (f : Form) → u < size
@@ -106,10 +120,12 @@ module _ (s : StructureForm) (a : Assignment) (v chunk : ℕ) where
       case (inr ne) = get_or-set_other values i x k No ne ∙ old ne (cases_lt x from)
 
   -- what has the values of all individuals has those of some
-  pub read-of : (f : Form) (word values : List K3) → IsWordAlong s a v chunk f values → IsReadOf s a v chunk f word values
+  pub read-of : (f : Form) (word values : List K3) → IsWordAlong s a v chunk f values → IsReadOf s a v chunk f word
+      values
   read-of f word values along = record { long = along.long; each = λ i low within some. along.each i low within }
 
-  pub signed-along : (flag : Bool) (f g : Form) (base word : List K3) → f ≡ signed flag g → IsWordAlong s a v chunk g base
+  pub signed-along : (flag : Bool) (f g : Form) (base word : List K3) → f ≡ signed flag g → IsWordAlong s a v chunk
+      g base
       → ((h : ℕ → K3) → IsWordOf s.size chunk h base → IsWordOf s.size chunk (λ u. signed_value flag (h u)) word)
       → IsWordAlong s a v chunk f word
   signed-along true f g base word is along turned =
@@ -169,3 +185,14 @@ module _ (s : StructureForm) (a : Assignment) (v chunk : ℕ) where
       (λ u within. same_turned (structure_of s) u at
       ∙ same_two (structure_of s) at (put a v u x) u (put a v u v) (is ∙ sym (put_other a v u x apart))
       (sym (put_same a v u v refl)))) turned
+
+-- ---- on a word
+
+-- the next word may be counted on too
+pub along-kept : (x : Along) (e now : Evaluator) (old new : List K3) → now ≡ e → length new ≡ 64 → IsAlong x e
+    old → IsAlong x now new
+along-kept x e now old new same long along = record {
+  structure = ap bound_structure same ∙ along.structure;
+  chunk = along.chunk;
+  long = long;
+}

@@ -12,7 +12,7 @@ use Rattle.tv_rules.specs.Laws.{IsNoHigher}
 use Rattle.tv_rules.proofs.Heights.{closed-low}
 use Rattle.tv_rules.proofs.Plain.{closed_rules_are_rules}
 use Rattle.tv_rules.proofs.Ranges.{rules_are_plain}
-use Rattle.tv_struct.specs.StructureForm.{arities_of}
+use Rattle.tv_structure_form.specs.StructureForm.{arities_of}
 use Rattle.tv_eval.specs.Formulas.{nesting}
 use Rattle.tv_eval.specs.Laws.{HasHeightsUpTo}
 use Rattle.tv_eval.specs.ScratchForm.{ScratchForm, HasScratchFor, program_height}

@@ -13,7 +13,7 @@ use Rattle.tv_model.specs.Program.{HeadForm}
 use Rattle.tv_model.specs.Truth.{Assignment, put}
 use Rattle.tv_eval_laws.specs.Value.{value, mark_value, same_value, greatest_of, least_of, best_walk}
 use Rattle.tv_rules.specs.Standing.{IsEquality}
-use Rattle.tv_struct.specs.StructureForm.{StructureForm, structure_of, summary_at}
+use Rattle.tv_structure_form.specs.StructureForm.{StructureForm, structure_of, summary_at}
 use Rattle.tv_coerce.specs.Touched.{HasNotMoved, IsTouched}
 use Rattle.tv_coerce_moves.specs.Moves.{MayMove}
 use Rattle.tv_coerce_moves.proofs.MoveLaws.{moves-shows}

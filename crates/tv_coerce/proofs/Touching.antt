@@ -16,12 +16,13 @@ use Rattle.tv_eval_laws.proofs.Embedded.{values_are_monotone}
 use Rattle.tv_rules.specs.Standing.{IsEquality, IsHeadOf, HasTwice}
 use Rattle.tv_stable_laws.specs.Stable.{IsHeadMet, IsStableUnder}
 use Rattle.tv_stable_laws.specs.Laws.{IsPlainRule}
-use Rattle.tv_struct.specs.StructureForm.{StructureForm, IsStructure, structure_of, value_at, summary_at}
-use Rattle.tv_struct.specs.StructureForm.{with_value, with_summary}
-use Rattle.tv_struct.specs.Laws.{WritesOneEntry, WritesOneSummary}
+use Rattle.tv_structure_form.specs.StructureForm.{StructureForm, IsStructure, structure_of, value_at}
+use Rattle.tv_structure_form.specs.StructureForm.{summary_at}
+use Rattle.tv_structure_form.specs.StructureForm.{with_value, with_summary}
+use Rattle.tv_structure_form.specs.Laws.{WritesOneEntry, WritesOneSummary}
 use Rattle.tv_struct.specs.TupleForm.{tuple_of}
-use Rattle.tv_struct.proofs.HalfLaws.{tuples_decided}
-use Rattle.tv_struct.proofs.StructureLaws.{writes_one_entry, writes_one_summary}
+use Rattle.tv_structure_form.proofs.HalfLaws.{tuples_decided}
+use Rattle.tv_structure_form.proofs.StructureLaws.{writes_one_entry, writes_one_summary}
 use Rattle.tv_coerce.specs.declared.change.Change.{Change}
 use Rattle.tv_coerce.specs.declared.change.Change.TheVariants.{Value, Ordinary}
 use Rattle.tv_coerce.specs.Changes.{IsPlace, IsLowered, changed}

@@ -8,7 +8,7 @@ use Rattle.tv_model.proofs.Lists.{Contains-none, pushed-cases}
 use Rattle.tv_model.specs.Program.{HeadForm, RuleForm}
 use Rattle.tv_coerce.specs.declared.noted.Ask.{Ask}
 use Rattle.tv_rules.specs.Seen.{Sees}
-use Rattle.tv_coerce_moves.specs.declared.list.Mover.{Mover}
+use Rattle.tv_coerce_moves.specs.declared.list.Occurrence.{Occurrence}
 use Rattle.tv_rules.specs.Moved.{IsMovedOf}
 use Rattle.tv_coerce.specs.RuleSets.{AreOf, HasAtLeast, HasMore, IsRuleThat, IsSeenTo, SeesRule, SeesSome}
 
@@ -50,12 +50,12 @@ module _ (IsSo : ℕ → Type 0) where
   least-whole numbers i old new all least =
       subst (λ ns. HasAtLeast (AreOf (Contains ns) IsSo) old new) (take_all i numbers all) least
 
--- ---- movers, one after the other
+-- ---- occurrences, one after the other
 
--- one of the first movers moves the rule, of so many of them
-abbrev pub IsMovedByFirst : ℕ → List RuleForm → List Mover → ℕ → Type 0
-IsMovedByFirst count bases movers n =
-    (k : ℕ) × (mover : Mover) × (k < count) × (slice_get movers k ≡ Some mover) × IsMovedOf bases mover n
+-- one of the first occurrences moves the rule, of so many of them
+abbrev pub IsMovedByFirst : ℕ → List RuleForm → List Occurrence → ℕ → Type 0
+IsMovedByFirst count bases occurrences n =
+    (k : ℕ) × (occurrence : Occurrence) × (k < count) × (slice_get occurrences k ≡ Some occurrence) × IsMovedOf bases occurrence n
 
 -- ---- rules that ask, one after the other
 

@@ -38,9 +38,8 @@ use Rattle.tv_stable_laws.specs.Stable.{IsTwice, IsHeadMet, IsStableUnder}
 use Rattle.tv_rules.specs.EntryForms.{rules_of}
 use Rattle.tv_eval.specs.AssignmentForm.{IsAssigned, assignment_of, individual_for}
 use Rattle.tv_eval.specs.ScratchForm.{ScratchForm}
-use Rattle.tv_eval.specs.declared.evaluator.Evaluator.{Evaluator}
-use Rattle.tv_struct.specs.StructureForm.{StructureForm, structure_of}
-use Rattle.tv_struct.proofs.Library.{Contains-range, below-range}
+use Rattle.tv_structure_form.specs.StructureForm.{StructureForm, structure_of}
+use Rattle.tv_structure_form.proofs.Library.{Contains-range, below-range}
 use Rattle.tv_rules.specs.Kin.{IsKin}
 use Rattle.tv_coerce.specs.Counting.{AreLeft, AreNarrowed, CountTells, IsAt, IsCounted, IsFrom, IsIdle}
 use Rattle.tv_coerce.specs.Counting.{IsWalkStart, Lacks}
@@ -48,12 +47,12 @@ use Rattle.tv_coerce.specs.Counting.{counted}
 use Rattle.tv_coerce.specs.Counting.{members_in, variables_in}
 use Rattle.std.specs.Borrow.{Bor}
 use Rattle.tv_coerce.specs.declared.noted.Ask.{Ask}
-use Rattle.tv_coerce.specs.declared.noted.Noted.{Noted}
+use Rattle.tv_coerce.specs.declared.noted.Queue.{Queue}
 use Rattle.tv_coerce.specs.Ready.{CanCoerce}
 use Rattle.tv_coerce.specs.Trying.{AreNoted, ArePlaced, CanTry, DifferOnlyAt, GoesOn, IsAdded, IsForcedBy}
 use Rattle.tv_coerce.specs.Trying.{IsForced}
 use Rattle.tv_coerce.specs.Trying.{IsHopeless, IsNeed, IsNotedOf, IsTold, IsTrial, IsTrialResult}
-use Rattle.tv_coerce.specs.Trying.{StaysBound, rule_at, trial_rule}
+use Rattle.tv_coerce.specs.Trying.{rule_at, trial_rule}
 use Rattle.tv_coerce.specs.Walks.{AreMet, AreTriedFor, GoesOnIn, IsAny, IsBetween, IsInChunk, IsTriedFor}
 use Rattle.tv_coerce.specs.declared.trial.Outcome.{Outcome}
 use Rattle.tv_coerce.specs.declared.trial.Outcome.TheVariants.{Possible, Impossible}
@@ -132,15 +131,16 @@ none-less [] ys grows none = refl
 none-less (x ∷ xs) ys grows none = absurd (omega (arith, grows, ap length none))
 
 module _ (trial : Trial) where
-  pub told-tried : (Tried : Type 0) (noted : Noted) → Tried → IsTold trial Tried noted noted Possible
+  pub told-tried : (Tried : Type 0) (noted : Queue) → Tried → IsTold trial Tried noted noted Possible
   told-tried Tried noted tried = record { forced = λ all. all; grows = omega arith; tells = λ none. tried }
 
   module _ (P Q : Type 0) where
-    pub told-so : (old new : Noted) (outcome : Outcome) → (P → Q) → IsTold trial P old new outcome → IsTold trial Q old new outcome
-    told-so old new Possible turn told = record { forced = told.forced; grows = told.grows; tells = λ none. turn (told.tells none) }
+    pub told-so : (old new : Queue) (outcome : Outcome) → (P → Q) → IsTold trial P old new outcome → IsTold trial Q old new outcome
+    told-so old new Possible turn told = record
+        { forced = told.forced; grows = told.grows; tells = λ none. turn (told.tells none) }
     told-so old new Impossible turn told = record { forced = told.forced; grows = told.grows; tells = told.tells }
 
-    module _ (R : Type 0) (old mid new : Noted) (so_far : IsTold trial P old mid Possible) where
+    module _ (R : Type 0) (old mid new : Queue) (so_far : IsTold trial P old mid Possible) where
       pub told-both : (P → Q → R) → IsTold trial Q mid new Possible → IsTold trial R old new Possible
       told-both both told = record {
         forced = λ all. told.forced (so_far.forced all);
@@ -167,7 +167,7 @@ module _ (trial : Trial) where
       (plain : IsPlainRule (rule_at trial.closed.now n))
       (at : ArePlaced trial.structure.now.size (rule_at trial.closed.now n) [] places)
       (body : value (structure_of trial.structure.now) (assignment_of places) (rule_at trial.closed.now n).body ≡ Yes) where
-    added-forced : (c : Change) (old new : Noted) → IsNeed trial.structure.now (assignment_of places) (rule_at trial.closed.now n).head (Put c)
+    added-forced : (c : Change) (old new : Queue) → IsNeed trial.structure.now (assignment_of places) (rule_at trial.closed.now n).head (Put c)
         → IsAdded (record { number = n; change = c }) old new → AreNoted trial old → AreNoted trial new
     added-forced c old new need (inl list) all =
         subst (All (IsForcedBy trial.closed.now trial.number trial.structure.now)) (sym list)
@@ -179,7 +179,7 @@ module _ (trial : Trial) where
     added-forced c old new need (inr (list, some)) all =
         subst (All (IsForcedBy trial.closed.now trial.number trial.structure.now)) (sym list) all
 
-    added-some : (ask : Ask) (old new : Noted) → IsAdded ask old new
+    added-some : (ask : Ask) (old new : Queue) → IsAdded ask old new
         → (length old.list.items ≤ length new.list.items) × (new.list.items ≢ [])
     added-some ask old new (inl list) = (
       omega (arith, ap length list, length-append old.list.items (ask ∷ [])),
@@ -187,7 +187,7 @@ module _ (trial : Trial) where
     )
     added-some ask old new (inr (list, some)) = (omega (arith, ap length list), λ none. some (sym list ∙ none))
 
-    pub noted-told : (Tried : Type 0) (old new : Noted) (outcome : Outcome)
+    pub noted-told : (Tried : Type 0) (old new : Queue) (outcome : Outcome)
         → (IsHeadMet (structure_of trial.structure.now) (assignment_of places) (rule_at trial.closed.now n).head → Tried)
         → IsNotedOf trial.structure.now (assignment_of places) n (rule_at trial.closed.now n).head old new outcome
         → IsTold trial Tried old new outcome
@@ -363,9 +363,11 @@ module _ (trial : Trial) (is : IsTrial trial) where
     long = start.long;
     within = start.within;
     idle = λ i low within none. idle-agreed trial.structure.now (put (assignment_of old) trial.last.0 (64 * trial.chunk + i))
-        (put (assignment_of new) trial.last.0 (64 * trial.chunk + i)) (members_in trial) (From (length rest)) (same i) (start.idle i low within none);
+        (put (assignment_of new) trial.last.0 (64 * trial.chunk + i)) (members_in trial) (From (length rest)) (same
+        i) (start.idle i low within none);
     half = λ i low within is-half. lacks-agreed trial.structure.now (put (assignment_of old) trial.last.0 (64 * trial.chunk + i))
-        (put (assignment_of new) trial.last.0 (64 * trial.chunk + i)) (members_in trial) (From (length rest)) (same i) (start.half i low within is-half);
+        (put (assignment_of new) trial.last.0 (64 * trial.chunk + i)) (members_in trial) (From (length rest)) (same
+        i) (start.half i low within is-half);
   }
     where
       same : (i : ℕ) (k : ℕ) (m : MemberForm) → slice_get (members_in trial) k ≡ Some m → length rest ≤ m.left
@@ -408,7 +410,8 @@ module _ (trial : Trial) (is : IsTrial trial) where
     agrees = put-agrees v (rest ++ trial.last.0 ∷ []) u places new is-put
 
     -- what was tested before v had its individual
-    before-same : (i : ℕ) (j : ℕ) (m : MemberForm) → slice_get ms j ≡ Some m → length (v ∷ rest) ≤ m.left → (x : ℕ) → IsFree x m.form
+    before-same : (i : ℕ) (j : ℕ) (m : MemberForm) → slice_get ms j ≡ Some m → length (v ∷ rest) ≤
+        m.left → (x : ℕ) → IsFree x m.form
         → put (assignment_of places) trial.last.0 (64 * trial.chunk + i) x ≡ here i x
     before-same i =
         tested-same (v ∷ rest) start.left (assignment_of places) (assignment_of new)
@@ -418,7 +421,8 @@ module _ (trial : Trial) (is : IsTrial trial) where
 
     lacks-before : (i : ℕ) → Lacks (From (length (v ∷ rest))) s (put (assignment_of places) trial.last.0 (64 * trial.chunk + i)) ms
         → Lacks (From (length (v ∷ rest))) s (here i) ms
-    lacks-before i = lacks-agreed s (put (assignment_of places) trial.last.0 (64 * trial.chunk + i)) (here i) ms (From (length (v ∷ rest))) (before-same i)
+    lacks-before i = lacks-agreed s (put (assignment_of places) trial.last.0 (64 * trial.chunk + i)) (here i) ms
+        (From (length (v ∷ rest))) (before-same i)
 
     -- what was tested of v itself
     lacks-own : (i : ℕ) → k ≡ Half → Lacks (IsAt (length rest) false) s (here i) ms
@@ -465,7 +469,8 @@ module _ (trial : Trial) (is : IsTrial trial) where
         at : (get_or tail i No ≡ No) ⊎ (get_or tail i No ≢ No) → IsIdle (From (length rest)) s (here i) ms
         at (inl e) =
             idle-weaker s (here i) ms (From (length (v ∷ rest))) (From (length rest)) from-before
-            (idle-agreed s (put (assignment_of places) trial.last.0 (64 * trial.chunk + i)) (here i) ms (From (length (v ∷ rest))) (before-same i)
+            (idle-agreed s (put (assignment_of places) trial.last.0 (64 * trial.chunk + i)) (here i) ms (From
+            (length (v ∷ rest))) (before-same i)
             (start.idle i low inside e))
         at (inr ne) = split (counted-no (get_or tail i No) k ne (sym (with-own.1 i low) ∙ none))
 
@@ -668,7 +673,7 @@ of-chunk trial last chunk = record {
   later = trial.later;
 }
 
-pub told-of : (trial : Trial) (w : Var) (k : ℕ) (Those : Assignment → Type 0) (old new : Noted)
+pub told-of : (trial : Trial) (w : Var) (k : ℕ) (Those : Assignment → Type 0) (old new : Queue)
     → IsTold (of-chunk trial w k) (AreTriedFor (of-chunk trial w k) Those) old new Possible
     → IsTold trial (AreTriedFor trial Those) old new Possible
 told-of trial w k Those old new told = record { forced = told.forced; grows = told.grows; tells = told.tells }
@@ -685,7 +690,7 @@ with-last trial last later = record {
   later = later;
 }
 
-pub told-with : (trial : Trial) (w : Var) (later : Bor (List (List K3))) (Those : Assignment → Type 0) (old new : Noted) (outcome : Outcome)
+pub told-with : (trial : Trial) (w : Var) (later : Bor (List (List K3))) (Those : Assignment → Type 0) (old new : Queue) (outcome : Outcome)
     → IsTold (with-last trial w later) (AreTriedFor (with-last trial w later) Those) old new outcome
     → IsTold trial (AreTriedFor trial Those) old new outcome
 told-with trial w later Those old new Possible told = record { forced = told.forced; grows = told.grows; tells = told.tells }
@@ -734,7 +739,8 @@ module _ (s : StructureForm) (rule : RuleForm) (vars : List ℕ) (known : (x : �
       at (inr more) (inl less) = passed b (goes, (more, less)) individuals body
       at (inr more) (inr here) =
           met-agreed (structure_of s) (assignment_of new-places) b rule.head (λ x in-head. same here x (inr in-head))
-          (met (sym (only_free_variables_matter (structure_of s) rule.body b (assignment_of new-places) (λ x free. same here x (inl free))) ∙ body))
+          (met (sym (only_free_variables_matter (structure_of s) rule.body b (assignment_of new-places) (λ x free.
+          same here x (inl free))) ∙ body))
 
   -- the same of a variable before others, which were tried with it
   pub tried-next : (v : ℕ) (rest : List ℕ) (w chunk first from i : ℕ) (old-places new-places now : List (Option ℕ))
@@ -837,9 +843,6 @@ none-at (x ∷ xs) few = absurd (omega (arith, few))
 pub differ-on : (rest : List ℕ) (old now new : List (Option ℕ)) → DifferOnlyAt rest old now → DifferOnlyAt rest now new → DifferOnlyAt rest old new
 differ-on rest old now new first second w none = second w none ∙ first w none
 
-pub stays-on : (s : StructureForm) (old now new : Evaluator) → StaysBound s old now → StaysBound s now new → StaysBound s old new
-stays-on s old now new first second = record { bound = second.bound; structure = second.structure; room = second.room ∙ first.room }
-
 -- ---- the end
 
 pub can-try : (closed : List Rule) (n : ℕ) (s : StructureForm) (scratch : ScratchForm) → n < length (rules_of closed)
@@ -849,7 +852,7 @@ can-try closed n s scratch within ready =
     in record { over = ready.over n none within; plain = ready.plain n none within; fits = ready.fits n none within }
 
 -- what was noted is what was found
-pub found-told : (trial : Trial) (old new : Noted) (outcome : Outcome) → old.list.items ≡ []
+pub found-told : (trial : Trial) (old new : Queue) (outcome : Outcome) → old.list.items ≡ []
     → IsTold trial (AreTriedFor trial IsAny) old new outcome
     → IsTrialResult trial.closed.now trial.number trial.structure.now new.list.items outcome
 found-told trial old new Possible none told =

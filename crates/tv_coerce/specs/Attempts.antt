@@ -5,8 +5,8 @@ use Rattle.tv_model.specs.Program.{RuleForm}
 use Rattle.tv_embedding_laws.specs.LogicalStructure.{LogicalStructure}
 use Rattle.tv_embedding_laws.specs.Embedding.{IsBelow}
 use Rattle.tv_stable_laws.specs.Stable.{IsStableUnder, IsStable, HasNoStable}
-use Rattle.tv_struct.specs.Halves.{half_count}
-use Rattle.tv_struct.specs.StructureForm.{StructureForm, IsStructure, arities_of, structure_of}
+use Rattle.tv_structure_form.specs.Halves.{half_count}
+use Rattle.tv_structure_form.specs.StructureForm.{StructureForm, IsStructure, arities_of, structure_of}
 use Rattle.tv_coerce.specs.Coerced.{IsCoercedTable}
 use Rattle.tv_coerce.specs.RuleSets.{IsIn, IsStableBut, SeesSome}
 use Rattle.tv_coerce.specs.Trying.{IsForced}

@@ -4,10 +4,11 @@ use Rattle.std.specs.Prelude.{◌≡◌, ◌≢◌, ◌<◌, ◌≤◌, ◌⊎�
 use Rattle.tv_kleene.specs.declared.K3.TheVariants.{Half}
 use Rattle.tv_embedding_laws.specs.LogicalStructure.{LogicalStructure}
 use Rattle.tv_embedding_laws.specs.Embedding.{IsBelow}
-use Rattle.tv_struct.specs.Halves.{half_count}
-use Rattle.tv_struct.specs.StructureForm.{StructureForm, IsStructure, arities_of, structure_of, table_of}
-use Rattle.tv_struct.specs.StructureForm.{value_at, summary_at, with_value, with_summary}
-use Rattle.tv_struct.specs.TableForm.{HasEntry}
+use Rattle.tv_structure_form.specs.Halves.{half_count}
+use Rattle.tv_structure_form.specs.StructureForm.{StructureForm, IsStructure, arities_of, structure_of}
+use Rattle.tv_structure_form.specs.StructureForm.{table_of}
+use Rattle.tv_structure_form.specs.StructureForm.{value_at, summary_at, with_value, with_summary}
+use Rattle.tv_structure_form.specs.TableForm.{HasEntry}
 use Rattle.tv_struct.specs.TupleForm.{tuple_of}
 use Rattle.tv_coerce.specs.declared.change.Change.{Change}
 use Rattle.tv_coerce.specs.declared.change.Change.TheVariants.{Value, Ordinary}

@@ -5,7 +5,7 @@ use Rattle.tv_model.specs.Program.{RuleForm}
 use Rattle.tv_model.specs.Rules.{MeetsRule}
 use Rattle.tv_embedding_laws.specs.Embedding.{IsHeapOf}
 use Rattle.tv_stable_laws.specs.Stable.{IsGreatestStable, HasNoStable}
-use Rattle.tv_struct.specs.StructureForm.{StructureForm, IsStructure, structure_of, arities_of}
+use Rattle.tv_structure_form.specs.StructureForm.{StructureForm, IsStructure, structure_of, arities_of}
 
 -- t is the greatest stable structure below s, with its mark
 pub record IsCoercedTable (rules : List RuleForm) (s t : StructureForm) : Type 0 where

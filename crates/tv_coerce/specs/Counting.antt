@@ -18,7 +18,7 @@ use Rattle.tv_eval_laws.specs.Value.{value}
 use Rattle.tv_eval.specs.AssignmentForm.{assignment_of}
 use Rattle.tv_eval.specs.Formulas.{AreAssigned}
 use Rattle.tv_eval.specs.ScratchForm.{ScratchForm, HasScratchFor}
-use Rattle.tv_struct.specs.StructureForm.{StructureForm, arities_of, structure_of}
+use Rattle.tv_structure_form.specs.StructureForm.{StructureForm, arities_of, structure_of}
 use Rattle.tv_coerce.specs.Trying.{ArePlaced, trial_rule}
 use Rattle.tv_coerce.specs.declared.trial.Trial.{Trial}
 
@@ -216,6 +216,14 @@ pub record IsBest (trial : Trial) (left : ℕ) (last : Bool) (b : Assignment) (b
 -- the trial's variables are some, then those that are left before the last, then the last
 abbrev pub AreLeft : Trial → (rest : List ℕ) → Type 0
 AreLeft trial rest = (done : List ℕ) × (variables_in trial ≡ done ++ (rest ++ trial.last.0 ∷ []))
+
+-- the trial's variables are those before and the last, and the members without variables count so, which
+-- doesn't rule the rules out
+pub record IsBegun (trial : Trial) (before : List ℕ) (places : List (Option ℕ)) (own : K3) : Type 0 where
+  pub variables : variables_in trial ≡ before ++ trial.last.0 ∷ []
+  pub own : Tells (IsAt (length before) false) trial.structure.now (assignment_of places)
+      (members_in trial) own
+  pub some : own ≢ No
 
 -- where a walk over the variables before the last that are left may begin: what can be tested was, and the
 -- word has how that counts for each individual of the last variable

@@ -8,7 +8,7 @@ use Rattle.tv_model.specs.Valid.{IsFormulaOver}
 use Rattle.tv_eval.specs.Formulas.{AreAssigned}
 use Rattle.tv_eval.specs.ScratchForm.{ScratchForm, HasScratchFor}
 use Rattle.tv_eval_laws.specs.Value.{value}
-use Rattle.tv_struct.specs.StructureForm.{StructureForm, arities_of, structure_of}
+use Rattle.tv_structure_form.specs.StructureForm.{StructureForm, arities_of, structure_of}
 use Rattle.tv_coerce.specs.Counting.{AreOthersYes, IsSome, LacksTwo, members_in}
 use Rattle.tv_coerce.specs.declared.counting.Missing.{Missing}
 use Rattle.tv_coerce.specs.declared.counting.Missing.TheVariants.{Nothing, Member, Several}

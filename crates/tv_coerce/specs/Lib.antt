@@ -1,6 +1,7 @@
 pub mod Attempts
 pub mod Changes
 pub mod Coerced
+pub mod CountedWords
 pub mod Counting
 pub mod Lacking
 pub mod Laws

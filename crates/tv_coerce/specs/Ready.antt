@@ -3,7 +3,7 @@ use Rattle.std.specs.Prelude.{ℕ, ◌≡◌, List, length, Some, All, slice_get
 use Rattle.tv_model.specs.Program.{HeadForm, HNever, HAtom, HSame, RuleForm}
 use Rattle.tv_model.specs.Valid.{IsFormulaOver, IsVariable}
 use Rattle.tv_stable_laws.specs.Laws.{IsPlainRule}
-use Rattle.tv_struct.specs.StructureForm.{StructureForm, arities_of}
+use Rattle.tv_structure_form.specs.StructureForm.{StructureForm, arities_of}
 use Rattle.tv_eval.specs.ScratchForm.{ScratchForm, HasScratchFor}
 
 -- a head over predicates of these arities, with variables in range

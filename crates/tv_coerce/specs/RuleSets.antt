@@ -5,7 +5,7 @@ use Rattle.std.specs.Prelude.{slice_index_or}
 use Rattle.std.specs.List.{sum_by}
 use Rattle.tv_model.specs.Program.{RuleForm}
 use Rattle.tv_stable_laws.specs.Stable.{IsStableUnder}
-use Rattle.tv_struct.specs.StructureForm.{StructureForm, structure_of}
+use Rattle.tv_structure_form.specs.StructureForm.{StructureForm, structure_of}
 use Rattle.tv_rules.specs.Seen.{Sees}
 use Rattle.tv_coerce.specs.declared.noted.Ask.{Ask}
 

@@ -4,8 +4,8 @@ use Rattle.tv_model.specs.Program.{RuleForm}
 use Rattle.tv_stable_laws.specs.Stable.{IsStableUnder}
 use Rattle.tv_embedding_laws.specs.LogicalStructure.{LogicalStructure}
 use Rattle.tv_embedding_laws.specs.Embedding.{IsBelow}
-use Rattle.tv_struct.specs.Halves.{half_count}
-use Rattle.tv_struct.specs.StructureForm.{StructureForm, IsStructure, arities_of, structure_of}
+use Rattle.tv_structure_form.specs.Halves.{half_count}
+use Rattle.tv_structure_form.specs.StructureForm.{StructureForm, IsStructure, arities_of, structure_of}
 use Rattle.tv_coerce.specs.declared.noted.Ask.{Ask}
 use Rattle.tv_coerce.specs.Changes.{Has, IsLowered, IsOpen, IsPlace}
 

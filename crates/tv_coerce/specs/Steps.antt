@@ -6,7 +6,7 @@ use Rattle.tv_model.specs.Truth.{Assignment}
 use Rattle.tv_coerce_members.specs.Members.{MemberForm}
 use Rattle.tv_coerce_members.specs.declared.levels.Step.{Step}
 use Rattle.tv_eval_laws.specs.Value.{value}
-use Rattle.tv_struct.specs.StructureForm.{StructureForm, structure_of}
+use Rattle.tv_structure_form.specs.StructureForm.{StructureForm, structure_of}
 use Rattle.tv_coerce.specs.Counting.{IsBarring, IsCounted}
 
 -- one of the first steps is of a member that isn't Yes

@@ -5,7 +5,7 @@ use Rattle.tv_kleene.specs.declared.K3.TheVariants.{No, Yes}
 use Rattle.tv_kleene.specs.Kleene.{IsAtMost}
 use Rattle.tv_model.specs.Program.{HeadForm, HNever, HAtom, HSame}
 use Rattle.tv_coerce_moves.specs.Moves.{IsEquality, IsHeadOf, Turns}
-use Rattle.tv_struct.specs.StructureForm.{StructureForm, value_at, summary_at}
+use Rattle.tv_structure_form.specs.StructureForm.{StructureForm, value_at, summary_at}
 use Rattle.tv_coerce.specs.declared.change.Change.{Change}
 use Rattle.tv_coerce.specs.declared.change.Change.TheVariants.{Value, Ordinary}
 

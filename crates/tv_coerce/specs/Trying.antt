@@ -9,20 +9,19 @@ use Rattle.tv_embedding_laws.specs.LogicalStructure.{LogicalStructure}
 use Rattle.tv_embedding_laws.specs.Embedding.{IsBelow}
 use Rattle.tv_stable_laws.specs.Stable.{IsHeadMet, IsStableUnder}
 use Rattle.tv_eval.specs.AssignmentForm.{IsAssigned, individual_for}
-use Rattle.tv_eval.specs.Bound.{IsBound, bound_structure, bound_room}
 use Rattle.tv_eval.specs.declared.evaluator.Evaluator.{Evaluator}
 use Rattle.tv_eval.specs.ScratchForm.{ScratchForm, HasScratchFor}
 use Rattle.tv_model.specs.declared.program.Rule.{Rule}
 use Rattle.tv_rules.specs.EntryForms.{rules_of}
 use Rattle.tv_stable_laws.specs.Laws.{IsPlainRule}
-use Rattle.tv_struct.specs.StructureForm.{StructureForm, arities_of, structure_of, summary_at}
+use Rattle.tv_structure_form.specs.StructureForm.{StructureForm, arities_of, structure_of, summary_at}
 use Rattle.tv_coerce.specs.Changes.{Has, IsPlace, IsOpen}
-use Rattle.tv_coerce.specs.Ready.{IsRuleOver}
+use Rattle.tv_coerce.specs.Ready.{CanCoerce, IsRuleOver}
 use Rattle.tv_coerce.specs.Touched.{IsChangeOf}
 use Rattle.tv_coerce_members.specs.Members.{IsLaidOut}
 use Rattle.tv_rules.specs.Kin.{IsKin, IsTriedBy, skip_of}
 use Rattle.tv_coerce.specs.declared.noted.Ask.{Ask}
-use Rattle.tv_coerce.specs.declared.noted.Noted.{Noted}
+use Rattle.tv_coerce.specs.declared.noted.Queue.{Queue}
 use Rattle.tv_coerce.specs.declared.change.Change.{Change}
 use Rattle.tv_coerce.specs.declared.trial.Trial.{Trial}
 use Rattle.tv_coerce.specs.declared.trial.Outcome.{Outcome}
@@ -82,20 +81,21 @@ IsNeed s a head (Put c) =
     IsPlace s c × IsOpen s c
     × ((u : LogicalStructure) → IsBelow u (structure_of s) → IsHeadMet u a head → Has c u) × IsChangeOf head c
 
--- the evaluator is still bound to the structure, and has its room
-pub record StaysBound (s : StructureForm) (old now : Evaluator) : Type 0 where
-  pub bound : IsBound now
-  pub structure : bound_structure now ≡ s
-  pub room : bound_room now ≡ bound_room old
+-- the trial may be gone through: it is one, the evaluator is one for its structure, and there is room for its
+-- rules
+pub record IsReadyFor (trial : Trial) (e : Evaluator) : Type 0 where
+  pub trial : IsTrial trial
+  pub structure : e.structure ≡ trial.structure.now
+  pub rules : CanCoerce (rules_of trial.closed.now) trial.structure.now e.room
 
 -- what is asked for was put behind what was noted; or it was passed over where something was noted
-abbrev pub IsAdded : (ask : Ask) → (old new : Noted) → Type 0
+abbrev pub IsAdded : (ask : Ask) → (old new : Queue) → Type 0
 IsAdded ask old new =
     (new.list.items ≡ old.list.items ++ ask ∷ [])
     ⊎ ((new.list.items ≡ old.list.items) × (old.list.items ≢ []))
 
 -- what was noted of the head of the rule of that number under one assignment
-abbrev pub IsNotedOf : StructureForm → Assignment → (number : ℕ) → HeadForm → (old new : Noted) → Outcome
+abbrev pub IsNotedOf : StructureForm → Assignment → (number : ℕ) → HeadForm → (old new : Queue) → Outcome
     → Type 0
 IsNotedOf s a number head old new Possible =
     ((new ≡ old) × IsNeed s a head Nothing)
@@ -119,7 +119,7 @@ pub record IsForcedBy (closed : List Rule) (number : ℕ) (s : StructureForm) (a
   pub kin : IsKin closed number ask.number
   pub forced : IsForced s (rule_at closed ask.number) ask.change
 
-abbrev pub AreNoted : Trial → Noted → Type 0
+abbrev pub AreNoted : Trial → Queue → Type 0
 AreNoted trial noted =
     All (IsForcedBy trial.closed.now trial.number trial.structure.now) noted.list.items
 
@@ -129,7 +129,7 @@ Tells trial Tried asks Possible = asks ≡ [] → Tried
 Tells trial Tried asks Impossible = HasHopeless trial.closed.now trial.number trial.structure.now
 
 -- what was noted, and is told, where that was to be tried
-pub record IsTold (trial : Trial) (Tried : Type 0) (old new : Noted) (outcome : Outcome) : Type 0 where
+pub record IsTold (trial : Trial) (Tried : Type 0) (old new : Queue) (outcome : Outcome) : Type 0 where
   pub forced : AreNoted trial old → AreNoted trial new
   pub grows : length old.list.items ≤ length new.list.items
   pub tells : Tells trial Tried new.list.items outcome

@@ -7,7 +7,7 @@ use Rattle.tv_model.specs.Truth.{Assignment}
 use Rattle.tv_eval_laws.specs.Value.{value}
 use Rattle.tv_rules.specs.Kin.{IsKin}
 use Rattle.tv_stable_laws.specs.Stable.{IsHeadMet}
-use Rattle.tv_struct.specs.StructureForm.{StructureForm, structure_of}
+use Rattle.tv_structure_form.specs.StructureForm.{StructureForm, structure_of}
 use Rattle.tv_coerce.specs.Counting.{variables_in}
 use Rattle.tv_coerce.specs.Trying.{GoesOn, rule_at}
 use Rattle.tv_coerce.specs.declared.trial.Trial.{Trial}

@@ -1,17 +1,15 @@
 //! The rules that wait are tried, until one asks for something.
 
 ghost use Rattle.std.specs.Prelude.{◌≡◌, [], length, IfOk};
-ghost use Rattle.tv_eval.specs.Bound.{IsBound, bound_room, bound_structure};
+ghost use Rattle.tv_eval.specs.Bound.{bound_room, bound_structure};
 ghost use Rattle.tv_rules.specs.EntryForms.{rules_of};
 ghost use Rattle.tv_coerce.specs.Attempts.{IsAttempted};
 ghost use Rattle.tv_coerce.specs.Ready.{CanCoerce};
 ghost use Rattle.tv_coerce.specs.RuleSets.{IsStableBut};
-ghost use Rattle.tv_coerce.specs.Trying.{StaysBound};
 
-use crate::finding::find;
-use crate::noted::{Ask, Noted};
+use crate::noted::{Ask, Queue};
 use crate::rule_set::RuleSet;
-use crate::trial::Outcome;
+use crate::trial::{Outcome, Walk};
 use std::alloc::AllocError;
 use tv_eval::{Assignment, Evaluator, Scratch};
 use tv_rules::Closed;
@@ -27,37 +25,36 @@ pub(crate) enum Asked {
     Impossible,
 }
 
-/// Takes rules out of the set and tries them, each with those that came of the same base rule, until one asks
-/// for something. The evaluator keeps what it closes for the rules that follow.
-fn attempt_by<'a>(
-    closed: &'a Closed,
-    s: &'a Structure,
-    waiting: &mut RuleSet,
-    evaluator: &mut Evaluator<'a>,
-    noted: &mut Noted,
-) -> Result<Option<Asked>, AllocError>
-    requires ready { CanCoerce (rules_of closed.now) s.now (bound_room evaluator.old) }
-    requires bound { IsBound evaluator.old }
-    requires structure { bound_structure evaluator.old ≡ s.now }
-    requires count { length waiting.old ≡ length (rules_of closed.now) }
-    requires rest { IsStableBut (rules_of closed.now) waiting.old s.now }
-    requires none { noted.old.list.items ≡ [] }
-    ensures attempted { IfOk result (IsAttempted (rules_of closed.now) s.now waiting.new) }
-    ensures stays { StaysBound s.now evaluator.old evaluator.new }
-{
-    let mut a = Assignment::new();
-    while let Some(number) = waiting.take(closed) {
-        match find(closed, number, s, evaluator, &mut a, noted)? {
-            Outcome::Impossible => return Ok(Some(Asked::Impossible)),
-            Outcome::Possible => {
-                if noted.has_some() {
-                    return Ok(Some(Asked::Changes(number, noted.take_asks())));
+impl<'s, 'a> Walk<'s, 'a> {
+    /// Takes rules out of the set and tries them, each with those that came of the same base rule, until one
+    /// asks for something. The evaluator keeps what it closes for the rules that follow.
+    fn attempt(
+        &mut self,
+        closed: &'a Closed,
+        s: &'a Structure,
+        waiting: &mut RuleSet,
+    ) -> Result<Option<Asked>, AllocError>
+        requires rules { CanCoerce (rules_of closed.now) s.now (bound_room self.old.evaluator) }
+        requires structure { bound_structure self.old.evaluator ≡ s.now }
+        requires count { length waiting.old ≡ length (rules_of closed.now) }
+        requires rest { IsStableBut (rules_of closed.now) waiting.old s.now }
+        requires none { self.old.noted.list.items ≡ [] }
+        ensures attempted { IfOk result (IsAttempted (rules_of closed.now) s.now waiting.new) }
+        ensures same { self.new.evaluator ≡ self.old.evaluator }
+    {
+        while let Some(number) = waiting.take(closed) {
+            match self.find(closed, number, s)? {
+                Outcome::Impossible => return Ok(Some(Asked::Impossible)),
+                Outcome::Possible => {
+                    if self.noted.has_some() {
+                        return Ok(Some(Asked::Changes(number, self.noted.take_asks())));
+                    }
+                    waiting.remove_all(closed.kin(number));
                 }
-                waiting.remove_all(closed.kin(number));
             }
         }
+        Ok(None)
     }
-    Ok(None)
 }
 
 /// Takes rules out of the set and tries them, until one asks for changes or can't be met; nothing where the
@@ -67,7 +64,7 @@ pub(crate) fn attempt(
     s: &Structure,
     waiting: &mut RuleSet,
     scratch: &mut Scratch,
-    noted: &mut Noted,
+    noted: &mut Queue,
 ) -> Result<Option<Asked>, AllocError>
     requires ready { CanCoerce (rules_of closed.now) s.now scratch.old }
     requires count { length waiting.old ≡ length (rules_of closed.now) }
@@ -76,8 +73,18 @@ pub(crate) fn attempt(
     ensures attempted { IfOk result (IsAttempted (rules_of closed.now) s.now waiting.new) }
     ensures scratch { scratch.new ≡ scratch.old }
 {
-    let mut evaluator = Evaluator::new(s, scratch);
-    let asked = attempt_by(closed, s, waiting, &mut evaluator, noted);
+    let mut walk = Walk {
+        evaluator: Evaluator::new(s, scratch),
+        a: Assignment::new(),
+        noted: noted.take(),
+    };
+    let asked = walk.attempt(closed, s, waiting);
+    let Walk {
+        evaluator,
+        noted: left,
+        ..
+    } = walk;
     evaluator.finish(scratch);
+    *noted = left;
     asked
 }

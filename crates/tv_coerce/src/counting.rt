@@ -3,15 +3,14 @@
 ghost use Rattle.std.specs.Prelude.{◌≡◌, ◌≢◌, ℕ, Bool, Some, All, slice_get};
 ghost use Rattle.tv_kleene.specs.declared.K3.TheVariants.{Yes};
 ghost use Rattle.tv_eval.specs.AssignmentForm.{assignment_of};
-ghost use Rattle.tv_eval.specs.Bound.{IsBound, bound_structure, bound_room};
+ghost use Rattle.tv_eval.specs.Bound.{bound_structure, bound_room};
 ghost use Rattle.tv_eval_laws.specs.Value.{value};
 ghost use Rattle.tv_coerce_members.specs.Members.{AreSteps, MemberForm};
-ghost use Rattle.tv_struct.specs.StructureForm.{structure_of};
+ghost use Rattle.tv_structure_form.specs.StructureForm.{structure_of};
 ghost use Rattle.tv_coerce.specs.Counting.{CanTest, CountTells, IsAt, IsBarring, IsIdle, Lacks, counted};
 ghost use Rattle.tv_coerce.specs.Counting.{members_in};
 ghost use Rattle.tv_coerce.specs.Counting.{count_of};
 ghost use Rattle.tv_coerce.specs.Lacking.{CanValue, IsLacking, lacking_too};
-ghost use Rattle.tv_coerce.specs.Trying.{StaysBound};
 
 use crate::trial::{Trial, is_no};
 use tv_coerce_members::Step;
@@ -39,17 +38,16 @@ fn count_of(literal: bool, k: K3) -> K3
 /// How the step's member counts.
 fn count_step<'a>(
     trial: &Trial<'a, '_>,
-    evaluator: &mut Evaluator<'a>,
+    evaluator: &mut Evaluator<'_, 'a>,
     step: &Step,
     a: &Assignment,
 ) -> K3
-    requires bound { IsBound evaluator.old }
     requires structure { bound_structure evaluator.old ≡ trial.now.structure.now }
     requires can { CanTest trial.now (bound_room evaluator.old) a.now step.now }
     ensures tells { (m : MemberForm) → slice_get (members_in trial.now) step.now.member ≡ Some m
         → CountTells (value (structure_of trial.now.structure.now) (assignment_of a.now) m.form ≢ Yes)
         (IsBarring trial.now.structure.now (assignment_of a.now) m) result }
-    ensures stays { StaysBound trial.now.structure.now evaluator.old evaluator.new }
+    ensures same { evaluator.new ≡ evaluator.old }
 {
     let members = trial.shape.members.as_slice();
     count_of(
@@ -61,11 +59,10 @@ fn count_step<'a>(
 /// How the members that are tested together count.
 pub(crate) fn count<'a>(
     trial: &Trial<'a, '_>,
-    evaluator: &mut Evaluator<'a>,
+    evaluator: &mut Evaluator<'_, 'a>,
     steps: &[Step],
     a: &Assignment,
 ) -> K3
-    requires bound { IsBound evaluator.old }
     requires structure { bound_structure evaluator.old ≡ trial.now.structure.now }
     requires can { All (CanTest trial.now (bound_room evaluator.old) a.now) steps.now }
     ensures tells { (left : ℕ) (last : Bool) → AreSteps (members_in trial.now) left last steps.now
@@ -73,7 +70,7 @@ pub(crate) fn count<'a>(
         (Lacks (IsAt left last) trial.now.structure.now (assignment_of a.now) (members_in trial.now))
         (IsIdle (IsAt left last) trial.now.structure.now (assignment_of a.now)
         (members_in trial.now)) result }
-    ensures stays { StaysBound trial.now.structure.now evaluator.old evaluator.new }
+    ensures same { evaluator.new ≡ evaluator.old }
 {
     let mut found = K3::Yes;
     for step in steps {
@@ -110,14 +107,13 @@ fn lacking_too(found: Missing, number: usize, value: K3) -> Missing
 /// Which members aren't `Yes` under the assignment.
 pub(crate) fn lacking<'a>(
     trial: &Trial<'a, '_>,
-    evaluator: &mut Evaluator<'a>,
+    evaluator: &mut Evaluator<'_, 'a>,
     a: &Assignment,
 ) -> Missing
-    requires bound { IsBound evaluator.old }
     requires structure { bound_structure evaluator.old ≡ trial.now.structure.now }
     requires can { CanValue trial.now (bound_room evaluator.old) a.now }
     ensures lacking { IsLacking trial.now.structure.now (assignment_of a.now) (members_in trial.now) result }
-    ensures stays { StaysBound trial.now.structure.now evaluator.old evaluator.new }
+    ensures same { evaluator.new ≡ evaluator.old }
 {
     let members = trial.shape.members.as_slice();
     let mut found = Missing::Nothing;

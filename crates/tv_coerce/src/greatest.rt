@@ -2,7 +2,7 @@
 
 ghost use Rattle.std.specs.Prelude.{◌≡◌, Some, length, IfOk};
 ghost use Rattle.tv_stable_laws.specs.Stable.{IsStable};
-ghost use Rattle.tv_struct.specs.StructureForm.{structure_of};
+ghost use Rattle.tv_structure_form.specs.StructureForm.{structure_of};
 ghost use Rattle.tv_rules.specs.EntryForms.{rules_of};
 ghost use Rattle.tv_coerce.specs.Attempts.{IsEnd, IsOnTheWay};
 ghost use Rattle.tv_coerce.specs.Coerced.{CoercesTo, CoercesHeaps};
@@ -10,7 +10,7 @@ ghost use Rattle.tv_coerce.specs.Ready.{CanCoerce};
 ghost use Rattle.tv_coerce.specs.RuleSets.{IsStableBut};
 
 use crate::attempt::{Asked, attempt};
-use crate::noted::Noted;
+use crate::noted::Queue;
 use crate::rule_set::RuleSet;
 use crate::sharpen::sharpen;
 use std::alloc::{AllocError, Global};
@@ -32,7 +32,7 @@ fn settle(
     ensures settled { IfOk result (IsEnd (rules_of closed.now) t.old t.new) }
     ensures scratch { scratch.new ≡ scratch.old }
 {
-    let mut noted = Noted::new(alloc, t.size());
+    let mut noted = Queue::new(alloc, t.size());
     while let Some(asked) = attempt(closed, t, waiting, scratch, &mut noted)? {
         match asked {
             Asked::Impossible => return Ok(false),
@@ -49,7 +49,7 @@ fn settle(
 
 /// The greatest structure below `s` that is stable under the closed rules, with the mark of `s`: each stable
 /// structure below `s` lies below it. `None` where no stable structure lies below `s`. Each heap, of any
-/// size, that meets the rules and embeds in `s` embeds in the answer. The only error is want of memory.
+/// size, that meets the rules and embeds in `s` embeds in the answer. The only error is lack of memory.
 pub fn coerce(
     alloc: Global,
     closed: &Closed,

@@ -3,8 +3,8 @@
 ghost use Rattle.std.specs.Prelude.{◌≡◌, ◌<◌, ◌≤◌, ℕ, Some, All, true, false};
 ghost use Rattle.tv_embedding_laws.specs.Embedding.{IsBelow};
 ghost use Rattle.tv_embedding_laws.specs.LogicalStructure.{LogicalStructure};
-ghost use Rattle.tv_struct.specs.StructureForm.{StructureForm, IsStructure, arities_of, structure_of};
-ghost use Rattle.tv_struct.specs.Halves.{half_count};
+ghost use Rattle.tv_structure_form.specs.StructureForm.{StructureForm, IsStructure, arities_of, structure_of};
+ghost use Rattle.tv_structure_form.specs.Halves.{half_count};
 ghost use Rattle.tv_coerce.specs.Changes.{Has, IsPlace, IsOpen, IsLowered};
 
 use crate::change::Change;

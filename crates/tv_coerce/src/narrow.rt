@@ -11,7 +11,7 @@ ghost use Rattle.tv_model.specs.Truth.{Assignment};
 ghost use Rattle.tv_model.specs.Valid.{IsFormulaOver};
 ghost use Rattle.tv_coerce_members.specs.Members.{AreSteps, IsReadAs, MemberForm, numbers_of};
 ghost use Rattle.tv_eval_laws.specs.Value.{value};
-ghost use Rattle.tv_struct.specs.StructureForm.{arities_of, structure_of};
+ghost use Rattle.tv_structure_form.specs.StructureForm.{arities_of, structure_of};
 ghost use Rattle.tv_coerce.specs.Counting.{AreNarrowed, CountTells, IsAt, IsBarring, IsBest, IsNarrowed};
 ghost use Rattle.tv_coerce.specs.Counting.{IsSeen};
 ghost use Rattle.tv_coerce.specs.Counting.{RestsOn, Tells, members_in, variables_in};

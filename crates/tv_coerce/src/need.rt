@@ -8,7 +8,7 @@ ghost use Rattle.tv_model.specs.Rules.{IsInHead};
 ghost use Rattle.tv_stable_laws.specs.Stable.{IsTwice};
 ghost use Rattle.tv_stable_laws.proofs.Heads.{wanted};
 ghost use Rattle.tv_eval.specs.AssignmentForm.{IsAssigned, assignment_of};
-ghost use Rattle.tv_struct.specs.StructureForm.{arities_of, summary_at, structure_of};
+ghost use Rattle.tv_structure_form.specs.StructureForm.{arities_of, summary_at, structure_of};
 ghost use Rattle.tv_struct.specs.TupleForm.{tuple_of};
 ghost use Rattle.tv_coerce.specs.Ready.{IsHeadOver};
 ghost use Rattle.tv_coerce.specs.Trying.{IsNeed, IsOnSummary};

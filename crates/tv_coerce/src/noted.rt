@@ -35,7 +35,7 @@ const INSIDE: usize = 256;
 /// Changes that rules which came of one base rule ask for in a structure of `size` individuals. What more
 /// than some of them ask for is passed over.
 #[derive(Debug, Drop)]
-pub(crate) struct Noted {
+pub(crate) struct Queue {
     list: Vec<Ask>,
     /// For each rule that asked which changes stand in the list.
     seen: Vec<Seen>,
@@ -107,13 +107,13 @@ fn place_in(seen: &[Seen], number: usize) -> usize {
     seen.len()
 }
 
-impl Noted {
+impl Queue {
     /// No changes. The size, that of the structure, tells places of changes apart: a hint, of which nothing
     /// is promised.
-    pub fn new(alloc: Global, size: u32) -> Noted
+    pub fn new(alloc: Global, size: u32) -> Queue
         ensures { result.list.items ≡ [] }
     {
-        Noted {
+        Queue {
             list: Vec::new(alloc),
             seen: Vec::new(alloc),
             asked: 0,
@@ -182,6 +182,13 @@ impl Noted {
         ensures { MatchBool result (self.now.list.items ≢ []) (self.now.list.items ≡ []) }
     {
         !self.list.is_empty()
+    }
+
+    /// Takes all out, with what is known of it; no changes are left here.
+    pub fn take(&mut self) -> Queue
+        ensures { result ≡ self.old }
+    {
+        mem::replace(self, Queue::new(self.alloc, self.size))
     }
 
     /// Takes out the changes, in the order in which they were noted, each with the rule that asks for it.

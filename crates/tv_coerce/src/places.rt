@@ -6,23 +6,20 @@ ghost use Rattle.std.specs.Prelude.{slice_get, slice_index_or};
 ghost use Rattle.tv_kleene.specs.declared.K3.{K3};
 ghost use Rattle.tv_eval.specs.Along.{IsWordOf};
 ghost use Rattle.tv_eval.specs.AssignmentForm.{assignment_of};
-ghost use Rattle.tv_eval.specs.Bound.{IsBound, bound_structure, bound_room};
+ghost use Rattle.tv_eval.specs.Bound.{bound_structure, bound_room};
 ghost use Rattle.tv_eval.specs.ScratchForm.{ScratchForm};
 ghost use Rattle.tv_coerce_members.specs.Members.{AreSteps, MemberForm};
 ghost use Rattle.tv_kleene.specs.declared.K3.TheVariants.{No, Half, Yes};
 ghost use Rattle.tv_row.specs.Bits.{padded, paired, yes_unless_no};
 ghost use Rattle.tv_eval_laws.specs.Value.{value};
 ghost use Rattle.tv_model.specs.Truth.{put, Assignment as Individuals};
-ghost use Rattle.tv_struct.specs.StructureForm.{structure_of};
-ghost use Rattle.tv_coerce.specs.Counting.{CanRead, IsAt, IsBarring, IsCounted, IsIdle, IsReadOf, Lacks};
-ghost use Rattle.tv_coerce.specs.Counting.{counted};
-ghost use Rattle.tv_coerce.specs.Counting.{members_in};
-ghost use Rattle.tv_coerce.specs.Counting.{signed_value};
-ghost use Rattle.tv_coerce.specs.Steps.{CountedBy};
-ghost use Rattle.tv_coerce.specs.Trying.{StaysBound};
+ghost use Rattle.tv_structure_form.specs.StructureForm.{structure_of};
+ghost use Rattle.tv_coerce.specs.Counting.{CanRead, IsBarring, IsCounted, counted, signed_value};
+ghost use Rattle.tv_coerce.specs.CountedWords.{AreCounted, CanReadAlong, IsAlong, IsCountedAt, IsCountedWith};
+ghost use Rattle.tv_coerce.specs.CountedWords.{IsReadAlong, members_along, structure_along};
 
 use crate::need::at;
-use crate::trial::{Trial, is_no};
+use crate::trial::{Span, Trial, is_no};
 use tv_coerce_members::{Reading, Step};
 use tv_eval::{Assignment, Evaluator, places, same_as};
 use tv_kleene::K3;
@@ -44,44 +41,6 @@ pub(crate) fn signed(s: &Structure, flag: bool, word: Word, chunk: u32) -> Word
     }
 }
 
-/// The values of the step's member for the individuals from `64 * chunk` on, at most 64, put for the
-/// variable, as far as the word doesn't rule them out.
-#[inline(always)]
-fn read<'a>(
-    trial: &Trial<'a, '_>,
-    evaluator: &mut Evaluator<'a>,
-    step: &Step,
-    v: Var,
-    chunk: u32,
-    a: &Assignment,
-    word: Word,
-) -> Word
-    requires bound { IsBound evaluator.old }
-    requires structure { bound_structure evaluator.old ≡ trial.now.structure.now }
-    requires can { CanRead trial.now (bound_room evaluator.old) v.0 a.now step.now }
-    requires chunk { 64 * chunk < trial.now.structure.now.size }
-    requires long { length word ≡ 64 }
-    ensures word { (m : MemberForm) → slice_get (members_in trial.now) step.now.member ≡ Some m
-        → IsReadOf trial.now.structure.now (assignment_of a.now) v.0 chunk m.form word result }
-    ensures stays { StaysBound trial.now.structure.now evaluator.old evaluator.new }
-{
-    let s = trial.structure;
-    match &step.reading {
-        Reading::Alone(flag, p) => signed(s, *flag, s.unary_word(*p, chunk), chunk),
-        Reading::Second(flag, p, x) => signed(s, *flag, s.word(*p, at(a, *x), chunk), chunk),
-        Reading::First(flag, p, x) => signed(s, *flag, s.column_word(*p, at(a, *x), chunk), chunk),
-        Reading::Same(flag, x) => signed(s, *flag, same_as(at(a, *x), chunk, s), chunk),
-        Reading::Other => {
-            if step.literal || !has_few(word) {
-                let members = trial.shape.members.as_slice();
-                evaluator.word(&members[step.member].formula, v, chunk, a)
-            } else {
-                read_each(trial, evaluator, step, v, chunk, a, word)
-            }
-        }
-    }
-}
-
 /// Of so many individuals each is valued by itself.
 const FEW: usize = 3;
 
@@ -97,63 +56,6 @@ fn has_few(word: Word) -> bool {
     word.first_possible(from).is_none()
 }
 
-/// The value of the step's member for each individual that the word doesn't rule out.
-#[inline(never)]
-fn read_each<'a>(
-    trial: &Trial<'a, '_>,
-    evaluator: &mut Evaluator<'a>,
-    step: &Step,
-    v: Var,
-    chunk: u32,
-    a: &Assignment,
-    word: Word,
-) -> Word
-    requires bound { IsBound evaluator.old }
-    requires structure { bound_structure evaluator.old ≡ trial.now.structure.now }
-    requires can { CanRead trial.now (bound_room evaluator.old) v.0 a.now step.now }
-    requires chunk { 64 * chunk < trial.now.structure.now.size }
-    requires long { length word ≡ 64 }
-    ensures word { (m : MemberForm) → slice_get (members_in trial.now) step.now.member ≡ Some m
-        → IsReadOf trial.now.structure.now (assignment_of a.now) v.0 chunk m.form word result }
-    ensures stays { StaysBound trial.now.structure.now evaluator.old evaluator.new }
-{
-    let _ = trial.structure.size();
-    let mut values = word;
-    let mut from = 0;
-    while let Some(i) = word.first_possible(from) {
-        let k = value_with(trial, evaluator, step, v, 64 * chunk + i, a);
-        values = values.with(i, k);
-        from = i + 1;
-    }
-    values
-}
-
-/// The value of the step's member with the individual put for the variable, if there is one of that number.
-fn value_with<'a>(
-    trial: &Trial<'a, '_>,
-    evaluator: &mut Evaluator<'a>,
-    step: &Step,
-    v: Var,
-    u: u32,
-    a: &Assignment,
-) -> K3
-    requires bound { IsBound evaluator.old }
-    requires structure { bound_structure evaluator.old ≡ trial.now.structure.now }
-    requires can { CanRead trial.now (bound_room evaluator.old) v.0 a.now step.now }
-    ensures exact { (m : MemberForm) → slice_get (members_in trial.now) step.now.member ≡ Some m
-        → u < trial.now.structure.now.size
-        → result ≡ value (structure_of trial.now.structure.now) (put (assignment_of a.now) v.0 u) m.form }
-    ensures stays { StaysBound trial.now.structure.now evaluator.old evaluator.new }
-{
-    if u >= trial.structure.size() {
-        return K3::No;
-    }
-    let members = trial.shape.members.as_slice();
-    let mut here = *a;
-    here.set(v, u);
-    evaluator.value(&members[step.member].formula, &here)
-}
-
 /// How the values count together.
 #[inline(always)]
 pub(crate) fn counted(word: Word, values: Word) -> Word
@@ -163,220 +65,253 @@ pub(crate) fn counted(word: Word, values: Word) -> Word
     word.or(values).unless_no(both).and(both)
 }
 
-/// The word with the step's member counted too.
-#[inline(always)]
-fn counted_step<'a>(
-    trial: &Trial<'a, '_>,
-    evaluator: &mut Evaluator<'a>,
-    step: &Step,
-    v: Var,
-    chunk: u32,
-    a: &Assignment,
-    word: Word,
-) -> Word
-    requires bound { IsBound evaluator.old }
-    requires structure { bound_structure evaluator.old ≡ trial.now.structure.now }
-    requires can { CanRead trial.now (bound_room evaluator.old) v.0 a.now step.now }
-    requires chunk { 64 * chunk < trial.now.structure.now.size }
-    requires long { length word ≡ 64 }
-    ensures counted { (m : MemberForm) → slice_get (members_in trial.now) step.now.member ≡ Some m
-        → IsCounted trial.now.structure.now.size (assignment_of a.now) v.0 chunk
-        (λ b. value (structure_of trial.now.structure.now) b m.form ≢ Yes)
-        (λ b. IsBarring trial.now.structure.now b m) word result }
-    ensures stays { StaysBound trial.now.structure.now evaluator.old evaluator.new }
-{
-    let values = read(trial, evaluator, step, v, chunk, a, word);
-    if step.literal {
-        counted(word, values)
-    } else {
-        word.and(values.unless_no(values))
-    }
+/// Along what members are counted: a variable, some of whose individuals have the values of a word, with what
+/// the other variables of a trial stand for.
+#[derive(Clone, Copy)]
+pub(crate) struct Along<'t, 'p, 'a, 'n> {
+    pub trial: &'t Trial<'a, 'n>,
+    pub a: &'p Assignment,
+    pub span: Span,
 }
 
-/// The word with the members counted that are tested together, with its individuals put for the variable.
-#[inline(always)]
-pub(crate) fn counted_all<'a>(
-    trial: &Trial<'a, '_>,
-    evaluator: &mut Evaluator<'a>,
-    steps: &[Step],
-    v: Var,
-    chunk: u32,
-    a: &Assignment,
-    word: Word,
-) -> Word
-    requires bound { IsBound evaluator.old }
-    requires structure { bound_structure evaluator.old ≡ trial.now.structure.now }
-    requires can { All (CanRead trial.now (bound_room evaluator.old) v.0 a.now) steps.now }
-    requires chunk { 64 * chunk < trial.now.structure.now.size }
-    requires long { length word ≡ 64 }
-    ensures counted { (left : ℕ) (last : Bool) → AreSteps (members_in trial.now) left last steps.now
-        → IsCounted trial.now.structure.now.size (assignment_of a.now) v.0 chunk
-        (λ b. Lacks (IsAt left last) trial.now.structure.now b (members_in trial.now))
-        (λ b. IsIdle (IsAt left last) trial.now.structure.now b (members_in trial.now)) word result }
-    ensures stays { StaysBound trial.now.structure.now evaluator.old evaluator.new }
-{
-    if steps.len() == 0 {
-        return word;
-    }
-    counted_from(trial, evaluator, steps, 0, v, chunk, a, word)
-}
-
-/// The same, where the members that stand first are mostly unary predicates: these are counted without a
-/// call.
-#[inline(always)]
-pub(crate) fn counted_alone<'a>(
-    trial: &Trial<'a, '_>,
-    evaluator: &mut Evaluator<'a>,
-    steps: &[Step],
-    v: Var,
-    chunk: u32,
-    a: &Assignment,
-    word: Word,
-) -> Word
-    requires bound { IsBound evaluator.old }
-    requires structure { bound_structure evaluator.old ≡ trial.now.structure.now }
-    requires can { All (CanRead trial.now (bound_room evaluator.old) v.0 a.now) steps.now }
-    requires chunk { 64 * chunk < trial.now.structure.now.size }
-    requires long { length word ≡ 64 }
-    ensures counted { (left : ℕ) (last : Bool) → AreSteps (members_in trial.now) left last steps.now
-        → IsCounted trial.now.structure.now.size (assignment_of a.now) v.0 chunk
-        (λ b. Lacks (IsAt left last) trial.now.structure.now b (members_in trial.now))
-        (λ b. IsIdle (IsAt left last) trial.now.structure.now b (members_in trial.now)) word result }
-    ensures stays { StaysBound trial.now.structure.now evaluator.old evaluator.new }
-{
-    let mut word = word;
-    for k in 0..steps.len() {
-        if is_no(word.greatest()) {
-            return word;
-        }
-        match counted_unary(trial, &steps[k], v, chunk, word) {
-            None => return counted_from(trial, evaluator, steps, k, v, chunk, a, word),
-            Some(more) => word = more,
-        }
-    }
-    word
-}
-
-/// The word with the step's member counted too, if that is a unary predicate.
-#[inline(always)]
-fn counted_unary(trial: &Trial<'_, '_>, step: &Step, v: Var, chunk: u32, word: Word) -> Option<Word>
-    requires can { (room : ScratchForm) × (places : List (Option ℕ))
-        × CanRead trial.now room v.0 places step.now }
-    requires chunk { 64 * chunk < trial.now.structure.now.size }
-    requires long { length word ≡ 64 }
-    ensures { (a : Individuals) (m : MemberForm) → slice_get (members_in trial.now) step.now.member ≡ Some m
-        → IfSome result (IsCounted trial.now.structure.now.size a v.0 chunk
-        (λ b. value (structure_of trial.now.structure.now) b m.form ≢ Yes)
-        (λ b. IsBarring trial.now.structure.now b m) word) }
-{
-    match step.reading {
-        Reading::Alone(flag, p) => {
-            let s = trial.structure;
-            let values = signed(s, flag, s.unary_word(p, chunk), chunk);
-            Some(counted(word, values))
-        }
-        _ => None,
-    }
-}
-
-/// The same, where the first member is mostly a row of a binary predicate: that one is counted without a
-/// call.
-#[inline(always)]
-pub(crate) fn counted_by_row<'a>(
-    trial: &Trial<'a, '_>,
-    evaluator: &mut Evaluator<'a>,
-    steps: &[Step],
-    v: Var,
-    chunk: u32,
-    a: &Assignment,
-    word: Word,
-) -> Word
-    requires bound { IsBound evaluator.old }
-    requires structure { bound_structure evaluator.old ≡ trial.now.structure.now }
-    requires can { All (CanRead trial.now (bound_room evaluator.old) v.0 a.now) steps.now }
-    requires chunk { 64 * chunk < trial.now.structure.now.size }
-    requires long { length word ≡ 64 }
-    ensures counted { (left : ℕ) (last : Bool) → AreSteps (members_in trial.now) left last steps.now
-        → IsCounted trial.now.structure.now.size (assignment_of a.now) v.0 chunk
-        (λ b. Lacks (IsAt left last) trial.now.structure.now b (members_in trial.now))
-        (λ b. IsIdle (IsAt left last) trial.now.structure.now b (members_in trial.now)) word result }
-    ensures stays { StaysBound trial.now.structure.now evaluator.old evaluator.new }
-{
-    if steps.len() == 0 {
-        return word;
-    }
-    match counted_row(trial, &steps[0], v, chunk, a, word) {
-        None => counted_from(trial, evaluator, steps, 0, v, chunk, a, word),
-        Some(more) => {
-            if steps.len() == 1 || is_no(more.greatest()) {
-                return more;
+impl<'t, 'p, 'a, 'n> Along<'t, 'p, 'a, 'n> {
+    /// The values of the step's member for the individuals from `64 * chunk` on, at most 64, put for the
+    /// variable, as far as the word doesn't rule them out.
+    #[inline(always)]
+    fn read(&self, evaluator: &mut Evaluator<'_, 'a>, step: &Step, word: Word) -> Word
+        requires along { IsAlong self.now evaluator.old word }
+        requires can { CanReadAlong self.now (bound_room evaluator.old) step.now }
+        ensures word { (m : MemberForm) → slice_get (members_along self.now) step.now.member ≡ Some m
+            → IsReadAlong self.now m word result }
+        ensures same { evaluator.new ≡ evaluator.old }
+    {
+        let s = self.trial.structure;
+        let a = self.a;
+        let chunk = self.span.chunk;
+        match &step.reading {
+            Reading::Alone(flag, p) => signed(s, *flag, s.unary_word(*p, chunk), chunk),
+            Reading::Second(flag, p, x) => signed(s, *flag, s.word(*p, at(a, *x), chunk), chunk),
+            Reading::First(flag, p, x) => signed(
+                s,
+                *flag,
+                s.column_word(*p, at(a, *x), chunk),
+                chunk,
+            ),
+            Reading::Same(flag, x) => signed(s, *flag, same_as(at(a, *x), chunk, s), chunk),
+            Reading::Other => {
+                if step.literal || !has_few(word) {
+                    let members = self.trial.shape.members.as_slice();
+                    evaluator.word(&members[step.member].formula, self.span.v, chunk, self.a)
+                } else {
+                    self.read_each(evaluator, step, word)
+                }
             }
-            counted_from(trial, evaluator, steps, 1, v, chunk, a, more)
         }
     }
-}
 
-/// The word with the step's member counted too, if that is a row of a binary predicate.
-#[inline(always)]
-fn counted_row(
-    trial: &Trial<'_, '_>,
-    step: &Step,
-    v: Var,
-    chunk: u32,
-    a: &Assignment,
-    word: Word,
-) -> Option<Word>
-    requires can { (room : ScratchForm) × CanRead trial.now room v.0 a.now step.now }
-    requires chunk { 64 * chunk < trial.now.structure.now.size }
-    requires long { length word ≡ 64 }
-    ensures { (m : MemberForm) → slice_get (members_in trial.now) step.now.member ≡ Some m
-        → IfSome result (IsCounted trial.now.structure.now.size (assignment_of a.now) v.0 chunk
-        (λ b. value (structure_of trial.now.structure.now) b m.form ≢ Yes)
-        (λ b. IsBarring trial.now.structure.now b m) word) }
-{
-    match step.reading {
-        Reading::Second(flag, p, x) => {
-            let s = trial.structure;
-            let values = signed(s, flag, s.word(p, at(a, x), chunk), chunk);
-            Some(counted(word, values))
+    /// The value of the step's member for each individual that the word doesn't rule out.
+    #[inline(never)]
+    fn read_each(&self, evaluator: &mut Evaluator<'_, 'a>, step: &Step, word: Word) -> Word
+        requires along { IsAlong self.now evaluator.old word }
+        requires can { CanReadAlong self.now (bound_room evaluator.old) step.now }
+        ensures word { (m : MemberForm) → slice_get (members_along self.now) step.now.member ≡ Some m
+            → IsReadAlong self.now m word result }
+        ensures same { evaluator.new ≡ evaluator.old }
+    {
+        let _ = self.trial.structure.size();
+        let mut values = word;
+        let mut from = 0;
+        while let Some(i) = word.first_possible(from) {
+            let k = self.value_with(evaluator, step, 64 * self.span.chunk + i);
+            values = values.with(i, k);
+            from = i + 1;
         }
-        _ => None,
+        values
     }
-}
 
-/// The same, where so many of the members were counted.
-fn counted_from<'a>(
-    trial: &Trial<'a, '_>,
-    evaluator: &mut Evaluator<'a>,
-    steps: &[Step],
-    done: usize,
-    v: Var,
-    chunk: u32,
-    a: &Assignment,
-    word: Word,
-) -> Word
-    requires bound { IsBound evaluator.old }
-    requires structure { bound_structure evaluator.old ≡ trial.now.structure.now }
-    requires can { All (CanRead trial.now (bound_room evaluator.old) v.0 a.now) steps.now }
-    requires chunk { 64 * chunk < trial.now.structure.now.size }
-    requires long { length word ≡ 64 }
-    ensures counted { (left : ℕ) (last : Bool) (begun : List K3)
-        → AreSteps (members_in trial.now) left last steps.now
-        → CountedBy trial.now.structure.now (assignment_of a.now) v.0 chunk (members_in trial.now) steps.now
-        done begun word
-        → IsCounted trial.now.structure.now.size (assignment_of a.now) v.0 chunk
-        (λ b. Lacks (IsAt left last) trial.now.structure.now b (members_in trial.now))
-        (λ b. IsIdle (IsAt left last) trial.now.structure.now b (members_in trial.now)) begun result }
-    ensures stays { StaysBound trial.now.structure.now evaluator.old evaluator.new }
-{
-    let mut word = word;
-    for k in done..steps.len() {
-        if is_no(word.greatest()) {
+    /// The value of the step's member with the individual put for the variable, if there is one of that
+    /// number.
+    fn value_with(&self, evaluator: &mut Evaluator<'_, 'a>, step: &Step, u: u32) -> K3
+        requires structure { bound_structure evaluator.old ≡ structure_along self.now }
+        requires can { CanReadAlong self.now (bound_room evaluator.old) step.now }
+        ensures exact { (m : MemberForm) → slice_get (members_along self.now) step.now.member ≡ Some m
+            → u < (structure_along self.now).size
+            → result ≡ value (structure_of (structure_along self.now))
+            (put (assignment_of self.now.a.now) self.now.span.v.0 u) m.form }
+        ensures same { evaluator.new ≡ evaluator.old }
+    {
+        if u >= self.trial.structure.size() {
+            return K3::No;
+        }
+        let members = self.trial.shape.members.as_slice();
+        let mut here = *self.a;
+        here.set(self.span.v, u);
+        evaluator.value(&members[step.member].formula, &here)
+    }
+
+    /// The word with the step's member counted too.
+    #[inline(always)]
+    fn counted_step(&self, evaluator: &mut Evaluator<'_, 'a>, step: &Step, word: Word) -> Word
+        requires along { IsAlong self.now evaluator.old word }
+        requires can { CanReadAlong self.now (bound_room evaluator.old) step.now }
+        ensures counted { (m : MemberForm) → slice_get (members_along self.now) step.now.member ≡ Some m
+            → IsCountedWith self.now m word result }
+        ensures same { evaluator.new ≡ evaluator.old }
+    {
+        let values = self.read(evaluator, step, word);
+        if step.literal {
+            counted(word, values)
+        } else {
+            word.and(values.unless_no(values))
+        }
+    }
+
+    /// The word with the members counted that are tested together, with its individuals put for the variable.
+    #[inline(always)]
+    pub(crate) fn counted_all(
+        &self,
+        evaluator: &mut Evaluator<'_, 'a>,
+        steps: &[Step],
+        word: Word,
+    ) -> Word
+        requires along { IsAlong self.now evaluator.old word }
+        requires can { All (CanReadAlong self.now (bound_room evaluator.old)) steps.now }
+        ensures counted { (left : ℕ) (last : Bool) → AreSteps (members_along self.now) left last steps.now
+            → IsCountedAt self.now left last word result }
+        ensures same { evaluator.new ≡ evaluator.old }
+    {
+        if steps.len() == 0 {
             return word;
         }
-        word = counted_step(trial, evaluator, &steps[k], v, chunk, a, word);
+        self.counted_from(evaluator, steps, 0, word)
     }
-    word
+
+    /// The same, where the members that stand first are mostly unary predicates: these are counted without a
+    /// call.
+    #[inline(always)]
+    pub(crate) fn counted_alone(
+        &self,
+        evaluator: &mut Evaluator<'_, 'a>,
+        steps: &[Step],
+        word: Word,
+    ) -> Word
+        requires along { IsAlong self.now evaluator.old word }
+        requires can { All (CanReadAlong self.now (bound_room evaluator.old)) steps.now }
+        ensures counted { (left : ℕ) (last : Bool) → AreSteps (members_along self.now) left last steps.now
+            → IsCountedAt self.now left last word result }
+        ensures same { evaluator.new ≡ evaluator.old }
+    {
+        let mut word = word;
+        for k in 0..steps.len() {
+            if is_no(word.greatest()) {
+                return word;
+            }
+            match self.counted_unary(&steps[k], word) {
+                None => return self.counted_from(evaluator, steps, k, word),
+                Some(more) => word = more,
+            }
+        }
+        word
+    }
+
+    /// The word with the step's member counted too, if that is a unary predicate.
+    #[inline(always)]
+    fn counted_unary(&self, step: &Step, word: Word) -> Option<Word>
+        requires can { (room : ScratchForm) × (places : List (Option ℕ))
+            × CanRead self.now.trial.now room self.now.span.v.0 places step.now }
+        requires chunk { 64 * self.now.span.chunk < (structure_along self.now).size }
+        requires long { length word ≡ 64 }
+        ensures { (a : Individuals) (m : MemberForm)
+            → slice_get (members_along self.now) step.now.member ≡ Some m
+            → IfSome result (IsCounted (structure_along self.now).size a self.now.span.v.0 self.now.span.chunk
+            (λ b. value (structure_of (structure_along self.now)) b m.form ≢ Yes)
+            (λ b. IsBarring (structure_along self.now) b m) word) }
+    {
+        match step.reading {
+            Reading::Alone(flag, p) => {
+                let s = self.trial.structure;
+                let chunk = self.span.chunk;
+                let values = signed(s, flag, s.unary_word(p, chunk), chunk);
+                Some(counted(word, values))
+            }
+            _ => None,
+        }
+    }
+
+    /// The same, where the first member is mostly a row of a binary predicate: that one is counted without a
+    /// call.
+    #[inline(always)]
+    pub(crate) fn counted_by_row(
+        &self,
+        evaluator: &mut Evaluator<'_, 'a>,
+        steps: &[Step],
+        word: Word,
+    ) -> Word
+        requires along { IsAlong self.now evaluator.old word }
+        requires can { All (CanReadAlong self.now (bound_room evaluator.old)) steps.now }
+        ensures counted { (left : ℕ) (last : Bool) → AreSteps (members_along self.now) left last steps.now
+            → IsCountedAt self.now left last word result }
+        ensures same { evaluator.new ≡ evaluator.old }
+    {
+        if steps.len() == 0 {
+            return word;
+        }
+        match self.counted_row(&steps[0], word) {
+            None => self.counted_from(evaluator, steps, 0, word),
+            Some(more) => {
+                if steps.len() == 1 || is_no(more.greatest()) {
+                    return more;
+                }
+                self.counted_from(evaluator, steps, 1, more)
+            }
+        }
+    }
+
+    /// The word with the step's member counted too, if that is a row of a binary predicate.
+    #[inline(always)]
+    fn counted_row(&self, step: &Step, word: Word) -> Option<Word>
+        requires can { (room : ScratchForm) × CanReadAlong self.now room step.now }
+        requires chunk { 64 * self.now.span.chunk < (structure_along self.now).size }
+        requires long { length word ≡ 64 }
+        ensures { (m : MemberForm) → slice_get (members_along self.now) step.now.member ≡ Some m
+            → IfSome result (IsCountedWith self.now m word) }
+    {
+        match step.reading {
+            Reading::Second(flag, p, x) => {
+                let s = self.trial.structure;
+                let chunk = self.span.chunk;
+                let values = signed(s, flag, s.word(p, at(self.a, x), chunk), chunk);
+                Some(counted(word, values))
+            }
+            _ => None,
+        }
+    }
+
+    /// The same, where so many of the members were counted.
+    fn counted_from(
+        &self,
+        evaluator: &mut Evaluator<'_, 'a>,
+        steps: &[Step],
+        done: usize,
+        word: Word,
+    ) -> Word
+        requires along { IsAlong self.now evaluator.old word }
+        requires can { All (CanReadAlong self.now (bound_room evaluator.old)) steps.now }
+        ensures counted { (left : ℕ) (last : Bool) (begun : List K3)
+            → AreSteps (members_along self.now) left last steps.now
+            → AreCounted self.now steps.now done begun word
+            → IsCountedAt self.now left last begun result }
+        ensures same { evaluator.new ≡ evaluator.old }
+    {
+        let mut word = word;
+        for k in done..steps.len() {
+            if is_no(word.greatest()) {
+                return word;
+            }
+            word = self.counted_step(evaluator, &steps[k], word);
+        }
+        word
+    }
 }
 
 /// What is counted of the last variable with an individual of another, which counts as `own` says: `sure`

@@ -13,7 +13,7 @@ ghost use Rattle.tv_coerce.specs.RuleSets.{IsSeenTo, SeesRule, SeesSome};
 use crate::noted::Ask;
 use std::alloc::{AllocError, Global};
 use std::marker::Model;
-use tv_coerce_moves::Mover;
+use tv_coerce_moves::Occurrence;
 use tv_model::{Head, PredId};
 use tv_row::Flags;
 use tv_rules::Closed;
@@ -151,36 +151,37 @@ impl RuleSet {
         self.insert_all(closed.by_sm());
     }
 
-    /// Puts the rule into the set if the mover moves a member of it.
+    /// Puts the rule into the set if the occurrence moves a member of it.
     #[tactic(auto, using(crate::proofs::Waking::one_in, crate::proofs::Waking::one_out))]
-    fn insert_moved(&mut self, closed: &Closed, mover: Mover, number: usize)
+    fn insert_moved(&mut self, closed: &Closed, occurrence: Occurrence, number: usize)
         requires count { length self.old ≡ length (rules_of closed.now) }
         requires within { number < length self.old }
-        ensures { HasAtLeast (AreOf (λ n. n ≡ number) (IsMoved closed.now mover)) self.old self.new }
+        ensures { HasAtLeast (AreOf (λ n. n ≡ number) (IsMoved closed.now occurrence)) self.old self.new }
     {
-        if closed.is_moved(number, mover) {
+        if closed.is_moved(number, occurrence) {
             self.insert(number);
         }
     }
 
-    /// Puts at least those of the rules into the set of which the mover moves a member.
-    fn insert_all_moved(&mut self, closed: &Closed, mover: Mover, numbers: &[usize])
+    /// Puts at least those of the rules into the set of which the occurrence moves a member.
+    fn insert_all_moved(&mut self, closed: &Closed, occurrence: Occurrence, numbers: &[usize])
         requires count { length self.old ≡ length (rules_of closed.now) }
         requires within { All (λ n. n < length self.old) numbers.now }
-        ensures { HasAtLeast (AreOf (Contains numbers.now) (IsMoved closed.now mover)) self.old self.new }
+        ensures { HasAtLeast
+            (AreOf (Contains numbers.now) (IsMoved closed.now occurrence)) self.old self.new }
     {
         for number in numbers {
-            self.insert_moved(closed, mover, *number);
+            self.insert_moved(closed, occurrence, *number);
         }
     }
 
-    /// Puts at least the rules into the set of which one of the movers moves a member.
-    fn insert_families(&mut self, closed: &Closed, movers: &[Mover])
+    /// Puts at least the rules into the set of which one of the occurrences moves a member.
+    fn insert_families(&mut self, closed: &Closed, occurrences: &[Occurrence])
         requires { length self.old ≡ length (rules_of closed.now) }
-        ensures { HasAtLeast (IsMovedBySome closed.now movers.now) self.old self.new }
+        ensures { HasAtLeast (IsMovedBySome closed.now occurrences.now) self.old self.new }
     {
-        for mover in movers {
-            self.insert_all_moved(closed, *mover, closed.family(*mover));
+        for occurrence in occurrences {
+            self.insert_all_moved(closed, *occurrence, closed.family(*occurrence));
         }
     }
 
@@ -189,7 +190,7 @@ impl RuleSet {
         requires { length self.old ≡ length (rules_of closed.now) }
         ensures { HasAtLeast (IsRuleThat (Sees (head_of head)) (rules_of closed.now)) self.old self.new }
     {
-        self.insert_families(closed, closed.movers(head));
+        self.insert_families(closed, closed.occurrences(head));
     }
 
     /// Puts at least the rules into the set that see what the rule of that number may change; nothing where

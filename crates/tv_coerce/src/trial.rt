@@ -7,27 +7,25 @@ ghost use Rattle.std.specs.Prelude.{Some, ◌↔◌, false, length, slice_get};
 ghost use Rattle.tv_kleene.specs.declared.K3.{K3};
 ghost use Rattle.tv_kleene.specs.declared.K3.TheVariants.{No, Yes};
 ghost use Rattle.tv_eval.specs.AssignmentForm.{assignment_of};
-ghost use Rattle.tv_eval.specs.Bound.{IsBound, bound_structure, bound_room};
 ghost use Rattle.tv_eval_laws.specs.Value.{value};
 ghost use Rattle.tv_coerce_members.specs.Members.{numbers_of};
 ghost use Rattle.tv_rules.specs.EntryForms.{rules_of};
 ghost use Rattle.tv_rules.specs.Kin.{IsKin};
 ghost use Rattle.tv_stable_laws.specs.Laws.{IsPlainRule};
-ghost use Rattle.tv_struct.specs.StructureForm.{arities_of, structure_of};
-ghost use Rattle.tv_coerce.specs.Counting.{AreNarrowed, CountTells, IsAt, IsIdle, IsWalkStart, Lacks};
-ghost use Rattle.tv_coerce.specs.Counting.{members_in};
+ghost use Rattle.tv_structure_form.specs.StructureForm.{arities_of, structure_of};
+ghost use Rattle.tv_coerce.specs.Counting.{AreNarrowed, IsBegun, IsWalkStart};
 ghost use Rattle.tv_coerce.specs.Counting.{variables_in};
 ghost use Rattle.tv_coerce.specs.Ready.{CanCoerce, IsRuleOver};
-ghost use Rattle.tv_coerce.specs.Trying.{ArePlaced, CanTry, DifferOnlyAt, IsNotedOf, IsTold, IsTrial};
-ghost use Rattle.tv_coerce.specs.Trying.{StaysBound, rule_at, trial_rule};
+ghost use Rattle.tv_coerce.specs.Trying.{ArePlaced, DifferOnlyAt, IsNotedOf, IsTold};
+ghost use Rattle.tv_coerce.specs.Trying.{IsReadyFor, rule_at, trial_rule};
 ghost use Rattle.tv_coerce.specs.Walks.{AreMet, AreTriedFor, GoesOnIn, IsAny, IsInChunk};
 
 use crate::change::Need;
 use crate::counting::{Missing, count, lacking};
 use crate::narrow::{going_on, narrow};
 use crate::need::need;
-use crate::noted::{Ask, Noted};
-use crate::places::{begun_with, counted, counted_all, counted_alone, counted_by_row};
+use crate::noted::{Ask, Queue};
+use crate::places::{Along, begun_with, counted};
 use std::alloc::AllocError;
 use tv_coerce_members::{Level, Shape};
 use tv_eval::{Assignment, Evaluator, chunks, places};
@@ -53,6 +51,13 @@ pub(crate) struct Trial<'a, 'n> {
     pub later: &'n [Word],
 }
 
+/// A variable, and which individuals are put for it: those from `64 * chunk` on, at most 64.
+#[derive(Clone, Copy)]
+pub(crate) struct Span {
+    pub v: Var,
+    pub chunk: u32,
+}
+
 /// Whether a structure below can be stable under the rules.
 #[derive(Clone, Copy, Debug, PartialEq, Eq)]
 pub(crate) enum Outcome {
@@ -66,13 +71,20 @@ pub(crate) fn is_no(k: K3) -> bool
     k == K3::No
 }
 
+/// How many of the variables before the last don't stand in the member, none where the last one does. A hint,
+/// of which nothing is promised.
+fn settled_by(shape: &Shape, member: usize) -> Option<usize> {
+    let denied = shape.members.as_slice().get(member)?;
+    if denied.last { None } else { Some(denied.left) }
+}
+
 /// Notes what the head of the rule of that number needs under the assignment, under which its body is `Yes`.
 fn note_head(
     trial: &Trial,
     number: usize,
     settled: Option<usize>,
     a: &Assignment,
-    noted: &mut Noted,
+    noted: &mut Queue,
 ) -> Result<Outcome, AllocError>
     requires number { number < length (rules_of trial.now.closed.now) }
     requires over { IsRuleOver (arities_of trial.now.structure.now) (rule_at trial.now.closed.now number) }
@@ -90,31 +102,20 @@ fn note_head(
     }
 }
 
-/// How many of the variables before the last don't stand in the member, none where the last one does. A hint,
-/// of which nothing is promised.
-fn settled_by(shape: &Shape, member: usize) -> Option<usize> {
-    let denied = shape.members.as_slice().get(member)?;
-    if denied.last { None } else { Some(denied.left) }
-}
-
 /// Notes what the rules ask for under the assignment: where all members are `Yes` no structure below is
 /// stable, and where one isn't, the rule that denies it asks for that.
 #[inline(never)]
 fn note<'a>(
     trial: &Trial<'a, '_>,
-    evaluator: &mut Evaluator<'a>,
+    evaluator: &mut Evaluator<'_, 'a>,
     a: &Assignment,
-    noted: &mut Noted,
+    noted: &mut Queue,
 ) -> Result<Outcome, AllocError>
-    requires trial { IsTrial trial.now }
-    requires bound { IsBound evaluator.old }
-    requires structure { bound_structure evaluator.old ≡ trial.now.structure.now }
-    requires ready { CanCoerce (rules_of trial.now.closed.now) trial.now.structure.now
-        (bound_room evaluator.old) }
+    requires ready { IsReadyFor trial.now evaluator.old }
     requires placed { ArePlaced trial.now.structure.now.size (trial_rule trial.now) [] a.now }
     ensures told { IfOk result
         (IsTold trial.now (AreMet trial.now (assignment_of a.now)) noted.old noted.new) }
-    ensures stays { StaysBound trial.now.structure.now evaluator.old evaluator.new }
+    ensures same { evaluator.new ≡ evaluator.old }
 {
     match lacking(trial, evaluator, a) {
         Missing::Nothing => note_head(trial, trial.number, None, a, noted),
@@ -129,47 +130,6 @@ fn note<'a>(
     }
 }
 
-/// Notes what the rules ask for with the individuals put for the last variable that the word doesn't rule
-/// out.
-#[inline(never)]
-fn note_all<'a>(
-    trial: &Trial<'a, '_>,
-    evaluator: &mut Evaluator<'a>,
-    tail: Word,
-    a: &mut Assignment,
-    noted: &mut Noted,
-) -> Result<Outcome, AllocError>
-    requires trial { IsTrial trial.now }
-    requires bound { IsBound evaluator.old }
-    requires structure { bound_structure evaluator.old ≡ trial.now.structure.now }
-    requires ready { CanCoerce (rules_of trial.now.closed.now) trial.now.structure.now
-        (bound_room evaluator.old) }
-    requires walk { IsWalkStart trial.now [] a.old tail }
-    ensures told { IfOk result
-        (IsTold trial.now
-        (AreTriedFor trial.now (GoesOnIn trial.now (trial.now.last.0 ∷ []) (assignment_of a.old)))
-        noted.old noted.new) }
-    ensures keeps { DifferOnlyAt (trial.now.last.0 ∷ []) a.old a.new }
-    ensures stays { StaysBound trial.now.structure.now evaluator.old evaluator.new }
-{
-    let _ = trial.structure.size();
-    let asked = noted.asked();
-    let mut from = 0;
-    while let Some(i) = tail.first_possible(from) {
-        a.set(trial.last, 64 * trial.chunk + i);
-        match note(trial, evaluator, a, noted)? {
-            Outcome::Possible => {
-                if noted.has_more(asked, 0) {
-                    return Ok(Outcome::Possible);
-                }
-                from = i + 1;
-            }
-            Outcome::Impossible => return Ok(Outcome::Impossible),
-        }
-    }
-    Ok(Outcome::Possible)
-}
-
 /// What is tested once all but so many of the variables before the last have individuals.
 #[inline(always)]
 pub(crate) fn level_of<'a>(trial: &Trial<'a, '_>, left: usize) -> &'a Level
@@ -177,170 +137,6 @@ pub(crate) fn level_of<'a>(trial: &Trial<'a, '_>, left: usize) -> &'a Level
     ensures { slice_get trial.now.shape.now.levels left ≡ Some result.now }
 {
     &trial.shape.levels.as_slice()[left]
-}
-
-/// Tries the rules with the individuals put for the variables that are left before the last, and those of the
-/// word for the last one. What these stand for is changed on the way.
-#[cycle(walk)]
-fn walk<'a>(
-    trial: &Trial<'a, '_>,
-    evaluator: &mut Evaluator<'a>,
-    rest: &[Var],
-    tail: Word,
-    a: &mut Assignment,
-    noted: &mut Noted,
-) -> Result<Outcome, AllocError>
-    requires trial { IsTrial trial.now }
-    requires bound { IsBound evaluator.old }
-    requires structure { bound_structure evaluator.old ≡ trial.now.structure.now }
-    requires ready { CanCoerce (rules_of trial.now.closed.now) trial.now.structure.now
-        (bound_room evaluator.old) }
-    requires walk { IsWalkStart trial.now (numbers_of rest.now) a.old tail }
-    ensures told { IfOk result
-        (IsTold trial.now
-        (AreTriedFor trial.now
-        (GoesOnIn trial.now (numbers_of rest.now ++ trial.now.last.0 ∷ []) (assignment_of a.old)))
-        noted.old noted.new) }
-    ensures keeps { DifferOnlyAt (numbers_of rest.now ++ trial.now.last.0 ∷ []) a.old a.new }
-    ensures stays { StaysBound trial.now.structure.now evaluator.old evaluator.new }
-{
-    match rest {
-        [] => note_all(trial, evaluator, tail, a, noted),
-        [v, behind @ ..] => {
-            let asked = noted.asked();
-            for chunk in 0..chunks(trial.structure.size()) {
-                match walk_chunk(trial, evaluator, *v, behind, chunk, tail, a, noted)? {
-                    Outcome::Possible => {
-                        if noted.has_more(asked, rest.len()) {
-                            return Ok(Outcome::Possible);
-                        }
-                    }
-                    Outcome::Impossible => return Ok(Outcome::Impossible),
-                }
-            }
-            Ok(Outcome::Possible)
-        }
-    }
-}
-
-/// The same, with the individuals from `64 * chunk` on, at most 64, put for the variable before those that
-/// are left.
-#[cycle(walk)]
-fn walk_chunk<'a>(
-    trial: &Trial<'a, '_>,
-    evaluator: &mut Evaluator<'a>,
-    v: Var,
-    rest: &[Var],
-    chunk: u32,
-    tail: Word,
-    a: &mut Assignment,
-    noted: &mut Noted,
-) -> Result<Outcome, AllocError>
-    requires trial { IsTrial trial.now }
-    requires bound { IsBound evaluator.old }
-    requires structure { bound_structure evaluator.old ≡ trial.now.structure.now }
-    requires ready { CanCoerce (rules_of trial.now.closed.now) trial.now.structure.now
-        (bound_room evaluator.old) }
-    requires walk { IsWalkStart trial.now (v.0 ∷ numbers_of rest.now) a.old tail }
-    requires chunk { 64 * chunk < trial.now.structure.now.size }
-    ensures told { IfOk result
-        (IsTold trial.now
-        (AreTriedFor trial.now
-        (λ b. GoesOnIn trial.now (v.0 ∷ numbers_of rest.now ++ trial.now.last.0 ∷ []) (assignment_of a.old) b
-        × IsInChunk v.0 chunk b))
-        noted.old noted.new) }
-    ensures keeps { DifferOnlyAt (v.0 ∷ numbers_of rest.now ++ trial.now.last.0 ∷ []) a.old a.new }
-    ensures stays { StaysBound trial.now.structure.now evaluator.old evaluator.new }
-{
-    let asked = noted.asked();
-    let all = Word::of(places(trial.structure.size(), chunk), K3::Yes);
-    let level = level_of(trial, rest.len());
-    let own = counted_all(trial, evaluator, level.own.as_slice(), v, chunk, a, all);
-    let steps = level.last.as_slice();
-    let alive = going_on(trial.later, rest.len(), tail, own);
-    let halved = counted(tail, Word::of(64, K3::Half));
-    let sure = own.unless_no(own);
-    let mut from = 0;
-    while let Some(i) = alive.first_possible(from) {
-        a.set(v, 64 * chunk + i);
-        from = i + 1;
-        let begun = begun_with(tail, halved, own, sure, i);
-        let word = counted_by_row(trial, evaluator, steps, trial.last, trial.chunk, a, begun);
-        if !is_no(word.greatest()) {
-            match walk(trial, evaluator, rest, word, a, noted)? {
-                Outcome::Possible => {
-                    if noted.has_more(asked, rest.len() + 1) {
-                        return Ok(Outcome::Possible);
-                    }
-                }
-                Outcome::Impossible => return Ok(Outcome::Impossible),
-            }
-        }
-    }
-    Ok(Outcome::Possible)
-}
-
-/// Tries the rules with the individuals of the trial's chunk put for their last variable, if the members
-/// without variables, which count so, don't rule that out.
-fn walk_last<'a>(
-    trial: &Trial<'a, '_>,
-    evaluator: &mut Evaluator<'a>,
-    before: &[Var],
-    own: K3,
-    a: &mut Assignment,
-    noted: &mut Noted,
-) -> Result<Outcome, AllocError>
-    requires trial { IsTrial trial.now }
-    requires bound { IsBound evaluator.old }
-    requires structure { bound_structure evaluator.old ≡ trial.now.structure.now }
-    requires ready { CanCoerce (rules_of trial.now.closed.now) trial.now.structure.now
-        (bound_room evaluator.old) }
-    requires variables { variables_in trial.now
-        ≡ numbers_of before.now ++ trial.now.last.0 ∷ [] }
-    requires chunk { 64 * trial.now.chunk < trial.now.structure.now.size }
-    requires narrowed { AreNarrowed trial.now trial.now.later.now }
-    requires own { CountTells
-        (Lacks (IsAt (length (numbers_of before.now)) false) trial.now.structure.now (assignment_of a.old)
-        (members_in trial.now))
-        (IsIdle (IsAt (length (numbers_of before.now)) false) trial.now.structure.now (assignment_of a.old)
-        (members_in trial.now)) own }
-    requires some { own ≢ No }
-    ensures told { IfOk result
-        (IsTold trial.now (AreTriedFor trial.now (IsInChunk trial.now.last.0 trial.now.chunk))
-        noted.old noted.new) }
-    ensures stays { StaysBound trial.now.structure.now evaluator.old evaluator.new }
-{
-    let level = level_of(trial, before.len());
-    let all = Word::of(places(trial.structure.size(), trial.chunk), own);
-    let steps = level.last.as_slice();
-    let tail = counted_alone(trial, evaluator, steps, trial.last, trial.chunk, a, all);
-    if is_no(tail.greatest()) {
-        return Ok(Outcome::Possible);
-    }
-    walk(trial, evaluator, before, tail, a, noted)
-}
-
-/// Tries rules without variables.
-pub(crate) fn walk_none<'a>(
-    trial: &Trial<'a, '_>,
-    evaluator: &mut Evaluator<'a>,
-    a: &Assignment,
-    noted: &mut Noted,
-) -> Result<Outcome, AllocError>
-    requires trial { IsTrial trial.now }
-    requires bound { IsBound evaluator.old }
-    requires structure { bound_structure evaluator.old ≡ trial.now.structure.now }
-    requires ready { CanCoerce (rules_of trial.now.closed.now) trial.now.structure.now
-        (bound_room evaluator.old) }
-    requires variables { variables_in trial.now ≡ [] }
-    ensures told { IfOk result (IsTold trial.now (AreTriedFor trial.now IsAny) noted.old noted.new) }
-    ensures stays { StaysBound trial.now.structure.now evaluator.old evaluator.new }
-{
-    let level = level_of(trial, 0);
-    if is_no(count(trial, evaluator, level.own.as_slice(), a)) {
-        return Ok(Outcome::Possible);
-    }
-    note(trial, evaluator, a, noted)
 }
 
 /// Rules with so many variables before the last are narrowed first.
@@ -355,104 +151,267 @@ fn is_narrowed(before: usize, size: u32) -> bool
     NARROWED <= before && before <= 32 && size <= 64
 }
 
-/// Tries rules whose variables are those before and the last, if the members without variables, which count
-/// so, don't rule that out.
-#[inline(always)]
-fn walk_chunks<'a>(
-    trial: &Trial<'a, '_>,
-    evaluator: &mut Evaluator<'a>,
-    before: &[Var],
-    own: K3,
-    a: &mut Assignment,
-    noted: &mut Noted,
-) -> Result<Outcome, AllocError>
-    requires trial { IsTrial trial.now }
-    requires bound { IsBound evaluator.old }
-    requires structure { bound_structure evaluator.old ≡ trial.now.structure.now }
-    requires ready { CanCoerce (rules_of trial.now.closed.now) trial.now.structure.now
-        (bound_room evaluator.old) }
-    requires variables { variables_in trial.now
-        ≡ numbers_of before.now ++ trial.now.last.0 ∷ [] }
-    requires narrowed { AreNarrowed trial.now trial.now.later.now }
-    requires own { CountTells
-        (Lacks (IsAt (length (numbers_of before.now)) false) trial.now.structure.now (assignment_of a.old)
-        (members_in trial.now))
-        (IsIdle (IsAt (length (numbers_of before.now)) false) trial.now.structure.now (assignment_of a.old)
-        (members_in trial.now)) own }
-    requires some { own ≢ No }
-    ensures told { IfOk result (IsTold trial.now (AreTriedFor trial.now IsAny) noted.old noted.new) }
-    ensures stays { StaysBound trial.now.structure.now evaluator.old evaluator.new }
-{
-    for chunk in 0..chunks(trial.structure.size()) {
-        let here = Trial { chunk, ..*trial };
-        match walk_last(&here, evaluator, before, own, a, noted)? {
-            Outcome::Possible => {}
-            Outcome::Impossible => return Ok(Outcome::Impossible),
+/// A walk over the variables of rules: what they stand for, and what was noted on the way.
+#[derive(Drop)]
+pub(crate) struct Walk<'s, 'a> {
+    pub evaluator: Evaluator<'s, 'a>,
+    pub a: Assignment,
+    pub noted: Queue,
+}
+
+impl<'s, 'a> Walk<'s, 'a> {
+    /// Notes what the rules ask for with the individuals put for the last variable that the word doesn't rule
+    /// out.
+    #[inline(never)]
+    fn note_all(&mut self, trial: &Trial<'a, '_>, tail: Word) -> Result<Outcome, AllocError>
+        requires ready { IsReadyFor trial.now self.old.evaluator }
+        requires walk { IsWalkStart trial.now [] self.old.a tail }
+        ensures told { IfOk result
+            (IsTold trial.now
+            (AreTriedFor trial.now (GoesOnIn trial.now (trial.now.last.0 ∷ []) (assignment_of self.old.a)))
+            self.old.noted self.new.noted) }
+        ensures keeps { DifferOnlyAt (trial.now.last.0 ∷ []) self.old.a self.new.a }
+        ensures same { self.new.evaluator ≡ self.old.evaluator }
+    {
+        let _ = trial.structure.size();
+        let asked = self.noted.asked();
+        let mut from = 0;
+        while let Some(i) = tail.first_possible(from) {
+            self.a.set(trial.last, 64 * trial.chunk + i);
+            match note(trial, &mut self.evaluator, &self.a, &mut self.noted)? {
+                Outcome::Possible => {
+                    if self.noted.has_more(asked, 0) {
+                        return Ok(Outcome::Possible);
+                    }
+                    from = i + 1;
+                }
+                Outcome::Impossible => return Ok(Outcome::Impossible),
+            }
+        }
+        Ok(Outcome::Possible)
+    }
+
+    /// Tries the rules with all individuals put for the variables that are left before the last, and those of
+    /// the word for the last one. What these stand for is changed on the way.
+    #[cycle(walk)]
+    fn walk(
+        &mut self,
+        trial: &Trial<'a, '_>,
+        rest: &[Var],
+        tail: Word,
+    ) -> Result<Outcome, AllocError>
+        requires ready { IsReadyFor trial.now self.old.evaluator }
+        requires walk { IsWalkStart trial.now (numbers_of rest.now) self.old.a tail }
+        ensures told { IfOk result
+            (IsTold trial.now
+            (AreTriedFor trial.now
+            (GoesOnIn trial.now (numbers_of rest.now ++ trial.now.last.0 ∷ []) (assignment_of self.old.a)))
+            self.old.noted self.new.noted) }
+        ensures keeps { DifferOnlyAt (numbers_of rest.now ++ trial.now.last.0 ∷ []) self.old.a self.new.a }
+        ensures same { self.new.evaluator ≡ self.old.evaluator }
+    {
+        match rest {
+            [] => self.note_all(trial, tail),
+            [v, behind @ ..] => {
+                let asked = self.noted.asked();
+                for chunk in 0..chunks(trial.structure.size()) {
+                    match self.walk_chunk(trial, Span { v: *v, chunk }, behind, tail)? {
+                        Outcome::Possible => {
+                            if self.noted.has_more(asked, rest.len()) {
+                                return Ok(Outcome::Possible);
+                            }
+                        }
+                        Outcome::Impossible => return Ok(Outcome::Impossible),
+                    }
+                }
+                Ok(Outcome::Possible)
+            }
         }
     }
-    Ok(Outcome::Possible)
-}
 
-/// The same, where the variables before the last are narrowed first, as far as words of 64 individuals do.
-#[inline(never)]
-fn walk_narrowed<'a>(
-    trial: &Trial<'a, '_>,
-    evaluator: &mut Evaluator<'a>,
-    before: &[Var],
-    own: K3,
-    a: &mut Assignment,
-    noted: &mut Noted,
-) -> Result<Outcome, AllocError>
-    requires trial { IsTrial trial.now }
-    requires bound { IsBound evaluator.old }
-    requires structure { bound_structure evaluator.old ≡ trial.now.structure.now }
-    requires ready { CanCoerce (rules_of trial.now.closed.now) trial.now.structure.now
-        (bound_room evaluator.old) }
-    requires variables { variables_in trial.now
-        ≡ numbers_of before.now ++ trial.now.last.0 ∷ [] }
-    requires few { (length before.now ≤ 32) × (trial.now.structure.now.size ≤ 64) }
-    requires own { CountTells
-        (Lacks (IsAt (length (numbers_of before.now)) false) trial.now.structure.now (assignment_of a.old)
-        (members_in trial.now))
-        (IsIdle (IsAt (length (numbers_of before.now)) false) trial.now.structure.now (assignment_of a.old)
-        (members_in trial.now)) own }
-    requires some { own ≢ No }
-    ensures told { IfOk result (IsTold trial.now (AreTriedFor trial.now IsAny) noted.old noted.new) }
-    ensures stays { StaysBound trial.now.structure.now evaluator.old evaluator.new }
-{
-    let words = narrow(trial, before);
-    let narrowed = Trial {
-        later: words.as_slice(),
-        ..*trial
-    };
-    walk_chunks(&narrowed, evaluator, before, own, a, noted)
-}
+    /// Tries the rules with the span's individuals put for the variable before those that are left.
+    #[cycle(walk)]
+    fn walk_chunk(
+        &mut self,
+        trial: &Trial<'a, '_>,
+        span: Span,
+        rest: &[Var],
+        tail: Word,
+    ) -> Result<Outcome, AllocError>
+        requires ready { IsReadyFor trial.now self.old.evaluator }
+        requires walk { IsWalkStart trial.now (span.v.0 ∷ numbers_of rest.now) self.old.a tail }
+        requires chunk { 64 * span.chunk < trial.now.structure.now.size }
+        ensures told { IfOk result
+            (IsTold trial.now
+            (AreTriedFor trial.now
+            (λ b. GoesOnIn trial.now (span.v.0 ∷ numbers_of rest.now ++ trial.now.last.0 ∷ [])
+            (assignment_of self.old.a) b × IsInChunk span.v.0 span.chunk b))
+            self.old.noted self.new.noted) }
+        ensures keeps { DifferOnlyAt (span.v.0 ∷ numbers_of rest.now ++ trial.now.last.0 ∷ []) self.old.a
+            self.new.a }
+        ensures same { self.new.evaluator ≡ self.old.evaluator }
+    {
+        let asked = self.noted.asked();
+        let all = Word::of(places(trial.structure.size(), span.chunk), K3::Yes);
+        let level = level_of(trial, rest.len());
+        let heads = Along {
+            trial,
+            a: &self.a,
+            span,
+        };
+        let own = heads.counted_all(&mut self.evaluator, level.own.as_slice(), all);
+        let steps = level.last.as_slice();
+        let alive = going_on(trial.later, rest.len(), tail, own);
+        let halved = counted(tail, Word::of(64, K3::Half));
+        let sure = own.unless_no(own);
+        let mut from = 0;
+        while let Some(i) = alive.first_possible(from) {
+            self.a.set(span.v, 64 * span.chunk + i);
+            from = i + 1;
+            let begun = begun_with(tail, halved, own, sure, i);
+            let tails = Along {
+                trial,
+                a: &self.a,
+                span: Span {
+                    v: trial.last,
+                    chunk: trial.chunk,
+                },
+            };
+            let word = tails.counted_by_row(&mut self.evaluator, steps, begun);
+            if !is_no(word.greatest()) {
+                match self.walk(trial, rest, word)? {
+                    Outcome::Possible => {
+                        if self.noted.has_more(asked, rest.len() + 1) {
+                            return Ok(Outcome::Possible);
+                        }
+                    }
+                    Outcome::Impossible => return Ok(Outcome::Impossible),
+                }
+            }
+        }
+        Ok(Outcome::Possible)
+    }
 
-/// Tries rules whose variables are those before and the last.
-pub(crate) fn walk_some<'a>(
-    trial: &Trial<'a, '_>,
-    evaluator: &mut Evaluator<'a>,
-    before: &[Var],
-    a: &mut Assignment,
-    noted: &mut Noted,
-) -> Result<Outcome, AllocError>
-    requires trial { IsTrial trial.now }
-    requires bound { IsBound evaluator.old }
-    requires structure { bound_structure evaluator.old ≡ trial.now.structure.now }
-    requires ready { CanCoerce (rules_of trial.now.closed.now) trial.now.structure.now
-        (bound_room evaluator.old) }
-    requires variables { variables_in trial.now ≡ numbers_of before.now ++ trial.now.last.0 ∷ [] }
-    requires narrowed { AreNarrowed trial.now trial.now.later.now }
-    ensures told { IfOk result (IsTold trial.now (AreTriedFor trial.now IsAny) noted.old noted.new) }
-    ensures stays { StaysBound trial.now.structure.now evaluator.old evaluator.new }
-{
-    let level = level_of(trial, before.len());
-    let own = count(trial, evaluator, level.own.as_slice(), a);
-    if is_no(own) {
-        return Ok(Outcome::Possible);
+    /// Tries the rules with the individuals of the trial's chunk put for their last variable, if the members
+    /// without variables, which count so, don't rule that out.
+    fn walk_last(
+        &mut self,
+        trial: &Trial<'a, '_>,
+        before: &[Var],
+        own: K3,
+    ) -> Result<Outcome, AllocError>
+        requires ready { IsReadyFor trial.now self.old.evaluator }
+        requires begun { IsBegun trial.now (numbers_of before.now) self.old.a own }
+        requires chunk { 64 * trial.now.chunk < trial.now.structure.now.size }
+        requires narrowed { AreNarrowed trial.now trial.now.later.now }
+        ensures told { IfOk result
+            (IsTold trial.now (AreTriedFor trial.now (IsInChunk trial.now.last.0 trial.now.chunk))
+            self.old.noted self.new.noted) }
+        ensures same { self.new.evaluator ≡ self.old.evaluator }
+    {
+        let level = level_of(trial, before.len());
+        let all = Word::of(places(trial.structure.size(), trial.chunk), own);
+        let steps = level.last.as_slice();
+        let tails = Along {
+            trial,
+            a: &self.a,
+            span: Span {
+                v: trial.last,
+                chunk: trial.chunk,
+            },
+        };
+        let tail = tails.counted_alone(&mut self.evaluator, steps, all);
+        if is_no(tail.greatest()) {
+            return Ok(Outcome::Possible);
+        }
+        self.walk(trial, before, tail)
     }
-    if is_narrowed(before.len(), trial.structure.size()) {
-        return walk_narrowed(trial, evaluator, before, own, a, noted);
+
+    /// Tries rules without variables.
+    pub(crate) fn walk_none(&mut self, trial: &Trial<'a, '_>) -> Result<Outcome, AllocError>
+        requires ready { IsReadyFor trial.now self.old.evaluator }
+        requires variables { variables_in trial.now ≡ [] }
+        ensures told { IfOk result
+            (IsTold trial.now (AreTriedFor trial.now IsAny) self.old.noted self.new.noted) }
+        ensures same { self.new.evaluator ≡ self.old.evaluator }
+    {
+        let level = level_of(trial, 0);
+        if is_no(count(trial, &mut self.evaluator, level.own.as_slice(), &self.a)) {
+            return Ok(Outcome::Possible);
+        }
+        note(trial, &mut self.evaluator, &self.a, &mut self.noted)
     }
-    walk_chunks(trial, evaluator, before, own, a, noted)
+
+    /// Tries rules whose variables are those before and the last, where the members without variables count
+    /// as `own` says.
+    #[inline(always)]
+    fn walk_chunks(
+        &mut self,
+        trial: &Trial<'a, '_>,
+        before: &[Var],
+        own: K3,
+    ) -> Result<Outcome, AllocError>
+        requires ready { IsReadyFor trial.now self.old.evaluator }
+        requires begun { IsBegun trial.now (numbers_of before.now) self.old.a own }
+        requires narrowed { AreNarrowed trial.now trial.now.later.now }
+        ensures told { IfOk result
+            (IsTold trial.now (AreTriedFor trial.now IsAny) self.old.noted self.new.noted) }
+        ensures same { self.new.evaluator ≡ self.old.evaluator }
+    {
+        for chunk in 0..chunks(trial.structure.size()) {
+            let here = Trial { chunk, ..*trial };
+            match self.walk_last(&here, before, own)? {
+                Outcome::Possible => {}
+                Outcome::Impossible => return Ok(Outcome::Impossible),
+            }
+        }
+        Ok(Outcome::Possible)
+    }
+
+    /// Narrows the variables before the last, as far as words of 64 individuals do, and tries the rules then.
+    #[inline(never)]
+    fn walk_narrowed(
+        &mut self,
+        trial: &Trial<'a, '_>,
+        before: &[Var],
+        own: K3,
+    ) -> Result<Outcome, AllocError>
+        requires ready { IsReadyFor trial.now self.old.evaluator }
+        requires begun { IsBegun trial.now (numbers_of before.now) self.old.a own }
+        requires few { (length before.now ≤ 32) × (trial.now.structure.now.size ≤ 64) }
+        ensures told { IfOk result
+            (IsTold trial.now (AreTriedFor trial.now IsAny) self.old.noted self.new.noted) }
+        ensures same { self.new.evaluator ≡ self.old.evaluator }
+    {
+        let words = narrow(trial, before);
+        let narrowed = Trial {
+            later: words.as_slice(),
+            ..*trial
+        };
+        self.walk_chunks(&narrowed, before, own)
+    }
+
+    /// Tries rules whose variables are those before and the last.
+    pub(crate) fn walk_some(
+        &mut self,
+        trial: &Trial<'a, '_>,
+        before: &[Var],
+    ) -> Result<Outcome, AllocError>
+        requires ready { IsReadyFor trial.now self.old.evaluator }
+        requires variables { variables_in trial.now ≡ numbers_of before.now ++ trial.now.last.0 ∷ [] }
+        requires narrowed { AreNarrowed trial.now trial.now.later.now }
+        ensures told { IfOk result
+            (IsTold trial.now (AreTriedFor trial.now IsAny) self.old.noted self.new.noted) }
+        ensures same { self.new.evaluator ≡ self.old.evaluator }
+    {
+        let level = level_of(trial, before.len());
+        let own = count(trial, &mut self.evaluator, level.own.as_slice(), &self.a);
+        if is_no(own) {
+            return Ok(Outcome::Possible);
+        }
+        if is_narrowed(before.len(), trial.structure.size()) {
+            return self.walk_narrowed(trial, before, own);
+        }
+        self.walk_chunks(trial, before, own)
+    }
 }

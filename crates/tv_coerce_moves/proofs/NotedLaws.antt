@@ -11,10 +11,10 @@ use Rattle.tv_lemmas.proofs.Lists.{still_at, pushed_there}
 use Rattle.tv_model.specs.Form.{Form, FAnd, FOr, FIff, FCond}
 use Rattle.tv_model.specs.Program.{HeadForm, HNever, HAtom, HSame}
 use Rattle.tv_coerce_moves.specs.declared.list.Member.{Member}
-use Rattle.tv_coerce_moves.specs.declared.list.Mover.{Mover}
+use Rattle.tv_coerce_moves.specs.declared.list.Occurrence.{Occurrence}
 use Rattle.tv_coerce_moves.specs.Moves.{IsEquality, IsHeadOf, MayMove, MayTell, Shows, Turns}
-use Rattle.tv_coerce_moves.specs.Movers.{AreNoted, HasMember, IsAmong, IsListed, IsNoted, KeepsMembers}
-use Rattle.tv_coerce_moves.specs.Movers.{MoverLists, list_for, lists_of}
+use Rattle.tv_coerce_moves.specs.Occurrences.{AreNoted, HasMember, IsAmong, IsListed, IsNoted, KeepsMembers}
+use Rattle.tv_coerce_moves.specs.Occurrences.{OccurrenceLists, list_for, lists_of}
 
 -- ---- one list
 
@@ -30,15 +30,15 @@ set-there (z ∷ xs) zero (suc j) y ne = refl
 set-there (z ∷ xs) (suc k) zero y ne = refl
 set-there (z ∷ xs) (suc k) (suc j) y ne = set-there xs k j y (λ e. ne (ap suc e))
 
--- a mover gets one place more
-pub noted-widened : (member : Member) (old : List Mover) (k : ℕ) (m new : Mover) → slice_get old k ≡ Some m
+-- a occurrence gets one place more
+pub noted-widened : (member : Member) (old : List Occurrence) (k : ℕ) (m new : Occurrence) → slice_get old k ≡ Some m
     → m.rule ≡ member.rule → new.rule ≡ m.rule → ((place : Option ℕ) → IsAmong place m.moving → IsAmong place new.moving)
     → IsAmong member.place new.moving → IsNoted member old (slice_set old k new)
 noted-widened member old k m new at rule same wider there = record {
   kept = λ other has. kept other has (cases_eq has.at k);
   there = record {
     at = k;
-    mover = new;
+    occurrence = new;
     there = set-here old k m new at;
     rule = same ∙ rule;
     among = there;
@@ -47,39 +47,39 @@ noted-widened member old k m new at rule same wider there = record {
   where
     kept : (other : Member) (has : HasMember other old) → (has.at ≡ k) ⊎ (has.at ≢ k) → HasMember other (slice_set old k new)
     kept other has (inl e) =
-        let found : slice_get old k ≡ Some has.mover = subst (λ j. slice_get old j ≡ Some has.mover) e has.there
-        in let is : has.mover ≡ m = cc (found, at)
+        let found : slice_get old k ≡ Some has.occurrence = subst (λ j. slice_get old j ≡ Some has.occurrence) e has.there
+        in let is : has.occurrence ≡ m = cc (found, at)
         in record {
           at = k;
-          mover = new;
+          occurrence = new;
           there = set-here old k m new at;
-          rule = same ∙ ap (λ (x : Mover). x.rule) (sym is) ∙ has.rule;
-          among = wider other.place (subst (λ (x : Mover). IsAmong other.place x.moving) is has.among);
+          rule = same ∙ ap (λ (x : Occurrence). x.rule) (sym is) ∙ has.rule;
+          among = wider other.place (subst (λ (x : Occurrence). IsAmong other.place x.moving) is has.among);
         }
     kept other has (inr ne) = record {
       at = has.at;
-      mover = has.mover;
+      occurrence = has.occurrence;
       there = set-there old k has.at new ne ∙ has.there;
       rule = has.rule;
       among = has.among;
     }
 
-pub noted-pushed : (member : Member) (old : List Mover) (new : Mover) → new.rule ≡ member.rule → IsAmong member.place new.moving
+pub noted-pushed : (member : Member) (old : List Occurrence) (new : Occurrence) → new.rule ≡ member.rule → IsAmong member.place new.moving
     → IsNoted member old (old ++ new ∷ [])
 noted-pushed member old new rule among = record {
   kept = λ other has. record {
     at = has.at;
-    mover = has.mover;
-    there = still_at old (new ∷ []) has.at has.mover has.there;
+    occurrence = has.occurrence;
+    there = still_at old (new ∷ []) has.at has.occurrence has.there;
     rule = has.rule;
     among = has.among;
   };
-  there = record { at = length old; mover = new; there = pushed_there old new; rule = rule; among = among };
+  there = record { at = length old; occurrence = new; there = pushed_there old new; rule = rule; among = among };
 }
 
 -- ---- a list for each predicate
 
-set-list : (lists : List (List Mover)) (p : ℕ) (old new : List Mover) → slice_get lists p ≡ Some old
+set-list : (lists : List (List Occurrence)) (p : ℕ) (old new : List Occurrence) → slice_get lists p ≡ Some old
     → ((m : Member) → HasMember m old → HasMember m new) → (q : ℕ) (m : Member) → HasMember m (slice_index_or lists q [])
     → HasMember m (slice_index_or (slice_set lists p new) q [])
 set-list [] p old new at more q m has = absurd (cc at)
@@ -89,13 +89,13 @@ set-list (l ∷ lists) zero old new at more (suc q) m has = has
 set-list (l ∷ lists) (suc p) old new at more zero m has = has
 set-list (l ∷ lists) (suc p) old new at more (suc q) m has = set-list lists p old new at more q m has
 
-set-own : (lists : List (List Mover)) (p : ℕ) (old new : List Mover) → slice_get lists p ≡ Some old
+set-own : (lists : List (List Occurrence)) (p : ℕ) (old new : List Occurrence) → slice_get lists p ≡ Some old
     → slice_index_or (slice_set lists p new) p [] ≡ new
 set-own [] p old new at = absurd (cc at)
 set-own (l ∷ lists) zero old new at = refl
 set-own (l ∷ lists) (suc p) old new at = set-own lists p old new at
 
-pub noted-yes : (p : ℕ) (member : Member) (to_yes to_no : List (List Mover)) (ordinary old new : List Mover)
+pub noted-yes : (p : ℕ) (member : Member) (to_yes to_no : List (List Occurrence)) (ordinary old new : List Occurrence)
     → slice_get to_yes p ≡ Some old → IsNoted member old new
     → AreNoted (λ head. Turns head true p) member (lists_of to_yes to_no ordinary) (lists_of (slice_set to_yes p new) to_no ordinary)
 noted-yes p member to_yes to_no ordinary old new at noted = record {
@@ -127,7 +127,7 @@ noted-yes p member to_yes to_no ordinary old new at noted = record {
     there (HSame flag v w) is turns = absurd turns
 
 -- a predicate without a list isn't one whose changes have one
-pub unlisted-yes : (p : ℕ) (member : Member) (to_yes to_no : List (List Mover)) (ordinary : List Mover) → length to_yes ≤ p
+pub unlisted-yes : (p : ℕ) (member : Member) (to_yes to_no : List (List Occurrence)) (ordinary : List Occurrence) → length to_yes ≤ p
     → AreNoted (λ head. Turns head true p) member (lists_of to_yes to_no ordinary) (lists_of to_yes to_no ordinary)
 unlisted-yes p member to_yes to_no ordinary past = record {
   kept = record { members = λ head m has. has; listed = λ head. (λ is. is, λ is. is) };
@@ -141,7 +141,7 @@ unlisted-yes p member to_yes to_no ordinary past = record {
     there (HAtom false q vars) is turns = absurd (cc turns.1)
     there (HSame flag v w) is turns = absurd turns
 
-pub noted-no : (p : ℕ) (member : Member) (to_yes to_no : List (List Mover)) (ordinary old new : List Mover)
+pub noted-no : (p : ℕ) (member : Member) (to_yes to_no : List (List Occurrence)) (ordinary old new : List Occurrence)
     → slice_get to_no p ≡ Some old → IsNoted member old new
     → AreNoted (λ head. Turns head false p) member (lists_of to_yes to_no ordinary) (lists_of to_yes (slice_set to_no p new) ordinary)
 noted-no p member to_yes to_no ordinary old new at noted = record {
@@ -172,7 +172,7 @@ noted-no p member to_yes to_no ordinary old new at noted = record {
         (subst (HasMember member) (sym (set-own to_no p old new at)) noted.there)
     there (HSame flag v w) is turns = absurd turns
 
-pub unlisted-no : (p : ℕ) (member : Member) (to_yes to_no : List (List Mover)) (ordinary : List Mover) → length to_no ≤ p
+pub unlisted-no : (p : ℕ) (member : Member) (to_yes to_no : List (List Occurrence)) (ordinary : List Occurrence) → length to_no ≤ p
     → AreNoted (λ head. Turns head false p) member (lists_of to_yes to_no ordinary) (lists_of to_yes to_no ordinary)
 unlisted-no p member to_yes to_no ordinary past = record {
   kept = record { members = λ head m has. has; listed = λ head. (λ is. is, λ is. is) };
@@ -186,7 +186,7 @@ unlisted-no p member to_yes to_no ordinary past = record {
     there (HAtom false q vars) is turns = absurd (omega (arith, is, past, turns.0))
     there (HSame flag v w) is turns = absurd turns
 
-pub noted-ordinary : (member : Member) (to_yes to_no : List (List Mover)) (old new : List Mover) → IsNoted member old new
+pub noted-ordinary : (member : Member) (to_yes to_no : List (List Occurrence)) (old new : List Occurrence) → IsNoted member old new
     → AreNoted IsEquality member (lists_of to_yes to_no old) (lists_of to_yes to_no new)
 noted-ordinary member to_yes to_no old new noted = record {
   kept = record { members = kept; listed = listed };
@@ -214,10 +214,10 @@ noted-ordinary member to_yes to_no old new noted = record {
 
 -- ---- several notes
 
-pub keeps-all : (lists : MoverLists) → KeepsMembers lists lists
+pub keeps-all : (lists : OccurrenceLists) → KeepsMembers lists lists
 keeps-all lists = record { members = λ head m has. has; listed = λ head. (λ is. is, λ is. is) }
 
-pub keeps-both : (old mid new : MoverLists) → KeepsMembers old mid → KeepsMembers mid new → KeepsMembers old new
+pub keeps-both : (old mid new : OccurrenceLists) → KeepsMembers old mid → KeepsMembers mid new → KeepsMembers old new
 keeps-both old mid new first second = record {
   members = λ head m has. second.members head m (first.members head m has);
   listed = λ head. (
@@ -226,7 +226,7 @@ keeps-both old mid new first second = record {
   );
 }
 
-pub noted-both : (A B C : HeadForm → Type 0) (member : Member) (old mid new : MoverLists) → ((head : HeadForm) → C head → A head ⊎ B head)
+pub noted-both : (A B C : HeadForm → Type 0) (member : Member) (old mid new : OccurrenceLists) → ((head : HeadForm) → C head → A head ⊎ B head)
     → AreNoted A member old mid → AreNoted B member mid new → AreNoted C member old new
 noted-both A B C member old mid new either first second = record {
   kept = keeps-both old mid new first.kept second.kept;
@@ -236,7 +236,7 @@ noted-both A B C member old mid new either first second = record {
       (either head such);
 }
 
-pub noted-fewer : (A B : HeadForm → Type 0) (member : Member) (old new : MoverLists) → ((head : HeadForm) → B head → A head)
+pub noted-fewer : (A B : HeadForm → Type 0) (member : Member) (old new : OccurrenceLists) → ((head : HeadForm) → B head → A head)
     → AreNoted A member old new → AreNoted B member old new
 noted-fewer A B member old new fewer noted = record {
   kept = noted.kept;

@@ -4,8 +4,8 @@
 
 mod equality;
 mod list;
-mod movers;
+mod occurrences;
 
 pub use equality::{has_equality, is_equality};
-pub use list::{Member, Mover, MoverList, Moving};
-pub use movers::Movers;
+pub use list::{Member, Moving, Occurrence, OccurrenceList};
+pub use occurrences::Occurrences;

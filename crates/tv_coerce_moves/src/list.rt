@@ -1,7 +1,7 @@
 //! The members of rules that a change moves, rule by rule.
 
 ghost use Rattle.std.specs.Prelude.{ℕ, ◌≡◌, [], ◌∷◌, IsTrue, OnOk, Option};
-ghost use Rattle.tv_coerce_moves.specs.Movers.{IsAmong, IsNoted, MovesOther};
+ghost use Rattle.tv_coerce_moves.specs.Occurrences.{IsAmong, IsNoted, MovesOther};
 
 use std::alloc::{AllocError, Global};
 use std::marker::Model;
@@ -26,7 +26,7 @@ pub enum Moving {
 
 /// A rule, and which of its members a change moves.
 #[derive(Clone, Copy, Debug)]
-pub struct Mover {
+pub struct Occurrence {
     /// The number of the rule.
     pub rule: usize,
     /// Its members.
@@ -35,17 +35,17 @@ pub struct Mover {
 
 /// The rules of which a change moves members, each once where its members are noted one after the other.
 #[derive(Debug, Drop)]
-pub struct MoverList {
-    movers: Vec<Mover>,
+pub struct OccurrenceList {
+    occurrences: Vec<Occurrence>,
 }
 
-impl Model for MoverList {
+impl Model for OccurrenceList {
     ghost use Rattle.std.specs.Prelude.{List};
-    ghost use Rattle.tv_coerce_moves.specs.declared.list.Mover.{Mover};
+    ghost use Rattle.tv_coerce_moves.specs.declared.list.Occurrence.{Occurrence};
 
-    ghost Value = { List Mover };
+    ghost Value = { List Occurrence };
 
-    ghost view = { λ l. l.movers.items };
+    ghost view = { λ l. l.occurrences.items };
 }
 
 fn is_same_place(a: Option<usize>, b: Option<usize>) -> bool
@@ -87,34 +87,34 @@ impl Moving {
     }
 }
 
-impl MoverList {
+impl OccurrenceList {
     /// No rules; takes no memory.
-    pub(crate) fn new(alloc: Global) -> MoverList
+    pub(crate) fn new(alloc: Global) -> OccurrenceList
         ensures { result ≡ [] }
     {
-        MoverList {
-            movers: Vec::new(alloc),
+        OccurrenceList {
+            occurrences: Vec::new(alloc),
         }
     }
 
     /// The rules in the order in which they were noted.
-    pub(crate) fn as_slice(&self) -> &[Mover]
+    pub(crate) fn as_slice(&self) -> &[Occurrence]
         ensures { result.now ≡ self.now }
     {
-        self.movers.as_slice()
+        self.occurrences.as_slice()
     }
 
     /// Notes a member that the change moves.
     pub(crate) fn note(&mut self, member: Member) -> Result<(), AllocError>
         ensures { OnOk result (IsNoted member self.old self.new) }
     {
-        let count = self.movers.len();
-        if count > 0 && self.movers[count - 1].rule == member.rule {
-            let moving = with_place(self.movers[count - 1].moving, member.place);
-            self.movers[count - 1].moving = moving;
+        let count = self.occurrences.len();
+        if count > 0 && self.occurrences[count - 1].rule == member.rule {
+            let moving = with_place(self.occurrences[count - 1].moving, member.place);
+            self.occurrences[count - 1].moving = moving;
             return Ok(());
         }
-        self.movers.push(Mover {
+        self.occurrences.push(Occurrence {
             rule: member.rule,
             moving: Moving::Alone(member.place),
         })?;

@@ -10,8 +10,8 @@ use Rattle.tv_model.proofs.Lists.{Contains-none, pushed-cases, slice_get-below}
 use Rattle.tv_rules.specs.Seen.{Sees}
 use Rattle.tv_rules.specs.Standing.{AreNumbersOf, IsHeadOf, StandsIn}
 use Rattle.tv_coerce_moves.proofs.MoveLaws.{moves-shows}
-use Rattle.tv_struct.specs.TableForm.{AreIndividuals}
-use Rattle.tv_struct.specs.StructureForm.{StructureForm}
+use Rattle.tv_structure_form.specs.TableForm.{AreIndividuals}
+use Rattle.tv_structure_form.specs.StructureForm.{StructureForm}
 use Rattle.tv_coerce.specs.RuleSets.{AreOf, HasAtLeast, IsIn, IsRuleThat}
 use Rattle.tv_coerce_sets.specs.declared.turned.Turned.{Turned}
 use Rattle.tv_coerce_sets.specs.Turned.{HasSameValues, HasTurned, known}

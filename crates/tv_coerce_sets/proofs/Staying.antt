@@ -19,9 +19,9 @@ use Rattle.tv_model.proofs.Assignments.{All-values, put-matched}
 use Rattle.tv_model.proofs.Lists.{Contains-here, Contains-there}
 use Rattle.tv_eval_laws.specs.Value.{value, same_value, greatest_of, least_of, best_walk}
 use Rattle.tv_stable_laws.specs.Stable.{IsHeadMet, IsStableUnder, IsTwice, MayStayHalf}
-use Rattle.tv_struct.specs.StructureForm.{StructureForm, structure_of, value_at, summary_at}
-use Rattle.tv_struct.specs.TableForm.{AreIndividuals}
-use Rattle.tv_struct.proofs.Library.{AreIndividuals-range, below-range}
+use Rattle.tv_structure_form.specs.StructureForm.{StructureForm, structure_of, value_at, summary_at}
+use Rattle.tv_structure_form.specs.TableForm.{AreIndividuals}
+use Rattle.tv_structure_form.proofs.Library.{AreIndividuals-range, below-range}
 use Rattle.tv_coerce_laws.proofs.Splits.{twice-in_head}
 use Rattle.tv_coerce_moves.specs.Moves.{IsHeadOf, MayMove}
 use Rattle.tv_coerce_moves.proofs.MoveLaws.{moves-shows}

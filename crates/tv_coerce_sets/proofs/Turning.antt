@@ -12,10 +12,10 @@ use Rattle.tv_kleene.specs.Kleene.{negation_of}
 use Rattle.tv_row.specs.Bits.{greatest_in, padded, paired, yes_unless_no}
 use Rattle.tv_row.proofs.Extremes.{any_yes}
 use Rattle.tv_row.proofs.WordOps.{get_or-padded, get_or-paired, length-padded, length-paired}
-use Rattle.tv_struct.specs.TableForm.{AreIndividuals}
-use Rattle.tv_struct.specs.StructureForm.{StructureForm, arities_of, value_at}
+use Rattle.tv_structure_form.specs.TableForm.{AreIndividuals}
+use Rattle.tv_structure_form.specs.StructureForm.{StructureForm, arities_of, value_at}
 use Rattle.tv_struct.specs.StructureRows.{HasArity}
-use Rattle.tv_struct.proofs.Library.{fits_or_No}
+use Rattle.tv_structure_form.proofs.Library.{fits_or_No}
 use Rattle.tv_coerce_sets.specs.declared.turned.Turned.{Turned}
 use Rattle.tv_coerce_sets.specs.Turned.{HasSameValues, HasTurned, Tells, known}
 

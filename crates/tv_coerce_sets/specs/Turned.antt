@@ -2,8 +2,8 @@
 use Rattle.std.specs.Prelude.{ℕ, ◌≡◌, ◌<◌, ◌⊎◌, Bool, true, false, IsTrue, List}
 use Rattle.tv_kleene.specs.declared.K3.{K3}
 use Rattle.tv_kleene.specs.declared.K3.TheVariants.{No, Yes}
-use Rattle.tv_struct.specs.StructureForm.{StructureForm, summary_at, value_at}
-use Rattle.tv_struct.specs.TableForm.{AreIndividuals}
+use Rattle.tv_structure_form.specs.StructureForm.{StructureForm, summary_at, value_at}
+use Rattle.tv_structure_form.specs.TableForm.{AreIndividuals}
 use Rattle.tv_coerce_sets.specs.declared.turned.Turned.{Turned}
 
 -- the structures have the same individuals and the same summaries

@@ -4,8 +4,8 @@ use Rattle.std.specs.Prelude.{replicate, slice_get, Contains}
 use Rattle.tv_kleene.specs.declared.K3.{K3}
 use Rattle.tv_model.specs.Program.{HeadForm, HAtom, RuleForm}
 use Rattle.tv_rules.specs.Seen.{Sees}
-use Rattle.tv_struct.specs.StructureForm.{StructureForm, value_at}
-use Rattle.tv_struct.specs.TableForm.{AreIndividuals}
+use Rattle.tv_structure_form.specs.StructureForm.{StructureForm, value_at}
+use Rattle.tv_structure_form.specs.TableForm.{AreIndividuals}
 use Rattle.tv_coerce.specs.RuleSets.{IsIn}
 use Rattle.tv_coerce_sets.specs.Turned.{known}
 use Rattle.tv_coerce_sets.specs.declared.turned.Turned.{Turned}

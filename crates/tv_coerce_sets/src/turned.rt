@@ -5,7 +5,7 @@ ghost use Rattle.std.specs.Prelude.{ℕ, ◌≡◌, ◌≢◌, ◌<◌, ◌≤�
 ghost use Rattle.std.specs.Prelude.{MatchBool};
 ghost use Rattle.tv_kleene.specs.declared.K3.{K3};
 ghost use Rattle.tv_kleene.specs.declared.K3.TheVariants.{No, Yes};
-ghost use Rattle.tv_struct.specs.StructureForm.{arities_of, value_at};
+ghost use Rattle.tv_structure_form.specs.StructureForm.{arities_of, value_at};
 ghost use Rattle.tv_struct.specs.StructureRows.{HasArity};
 ghost use Rattle.tv_coerce_sets.specs.Turned.{HasTurned, Tells};
 

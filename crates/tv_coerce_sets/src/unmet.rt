@@ -7,7 +7,7 @@ ghost use Rattle.tv_model.specs.Program.{HAtom, RuleForm, head_of};
 ghost use Rattle.tv_rules.specs.EntryForms.{rules_of};
 ghost use Rattle.tv_rules.specs.Seen.{Sees};
 ghost use Rattle.tv_rules.specs.Standing.{StandsIn};
-ghost use Rattle.tv_struct.specs.StructureForm.{arities_of};
+ghost use Rattle.tv_structure_form.specs.StructureForm.{arities_of};
 ghost use Rattle.tv_coerce_sets.specs.Unmet.{HasHeadWith, IsHeadWith, MaySee, WaitsAmong, set_of};
 
 use crate::turned::{Turned, turned_values};

@@ -1,1 +1,4 @@
+mod Marks
+mod Plain
+mod Lines
 mod Written

@@ -9,8 +9,8 @@ use Rattle.tv_compiled.specs.Whole.{actions_text, edge_text, node_at, noted, pro
 use Rattle.tv_lex.specs.Comments.{IsWholeLines}
 use Rattle.tv_model.specs.Program.{ProgramForm, program_of}
 use Rattle.tv_model.specs.declared.program.Edge.{Edge}
-use Rattle.tv_gather_laws.specs.Laws.{WholeTextsAreGathered}
-use Rattle.tv_gather_laws.proofs.Lines.{whole_append}
+use Rattle.tv_compiled_laws.specs.Gathered.{WholeTextsAreGathered}
+use Rattle.tv_compiled_laws.proofs.Lines.{whole_append}
 use Rattle.tv_compiled_laws.specs.Laws.{CompiledTextsArePrograms}
 
 -- a text that isn't nothing, and ends with a line feed

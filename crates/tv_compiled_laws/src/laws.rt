@@ -1,8 +1,16 @@
-//! A law about files. The function does nothing of its own: its clause is what it shows.
+//! Laws about files. The functions do nothing of their own: their clauses are what they show.
 
+ghost use Rattle.tv_compiled_laws.specs.Gathered.{WholeTextsAreGathered};
 ghost use Rattle.tv_compiled_laws.specs.Laws.{CompiledTextsArePrograms};
 
-use tv_gather_laws::whole_texts_are_gathered;
+use tv_lex::comments_over_lines;
+
+/// A text of whole lines that has tokens includes nothing: a file that holds it is gathered as it stands.
+pub fn whole_texts_are_gathered()
+    ensures { WholeTextsAreGathered }
+{
+    comments_over_lines();
+}
 
 /// A file that holds the text of a compiled program means this program: it includes nothing.
 pub fn compiled_texts_are_programs()

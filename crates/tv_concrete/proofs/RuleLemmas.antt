@@ -184,7 +184,7 @@ free-all F all i vars done before w =
     let Of : List ℕ → Type 0 = λ xs. Contains vars w ↔ (Contains xs w × F w)
     in subst Of (take_all i all done) (before w)
 
--- the same of an answer that may be want of memory
+-- the same of an answer that may be lack of memory
 pub free-of_result : {E : Type 0} (rule : RuleForm) (all : List ℕ)
     → all ≡ variables_in rule.body ++ head_variables rule.head
     → (result : Result (List ℕ) E)

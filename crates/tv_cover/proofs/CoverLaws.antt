@@ -13,7 +13,7 @@ use Rattle.tv_lemmas.proofs.Orderings.{le_same}
 use Rattle.tv_embed.specs.Maps.{IsEmbedding, IsLeastEmbedding}
 use Rattle.tv_embed.proofs.SearchLaws.{embedding-list}
 use Rattle.tv_embedding_laws.specs.Embedding.{IsEmbedded}
-use Rattle.tv_struct.specs.StructureForm.{StructureForm, arities_of, structure_of}
+use Rattle.tv_structure_form.specs.StructureForm.{StructureForm, arities_of, structure_of}
 use Rattle.tv_cover.specs.Covers.{IsFirstCover, IsCoverAt, HasNoCoverAt, HasCoversAmong}
 use Rattle.tv_cover.specs.Indexed.{AreIndexed, glances_of}
 use Rattle.tv_cover.specs.Glance.{GlanceForm, glance_of, MayEmbed, IsOnlyMap}

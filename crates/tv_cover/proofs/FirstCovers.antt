@@ -17,9 +17,10 @@ use Rattle.tv_kleene.specs.Kleene.{LiesUnder}
 use Rattle.tv_model.proofs.Decided.{IsDecided, same-decided, and-decided, or-decided, implies-decided}
 use Rattle.tv_model.proofs.Decided.{forall-decided, Contains-decided, mark-decided}
 use Rattle.tv_embedding_laws.specs.Embedding.{IsEmbedded}
-use Rattle.tv_struct.specs.StructureForm.{StructureForm, IsStructure, arities_of, structure_of, summary_at}
-use Rattle.tv_struct.specs.StructureForm.{value_at}
-use Rattle.tv_struct.proofs.Library.{Contains-range, below-range}
+use Rattle.tv_structure_form.specs.StructureForm.{StructureForm, IsStructure, arities_of, structure_of}
+use Rattle.tv_structure_form.specs.StructureForm.{summary_at}
+use Rattle.tv_structure_form.specs.StructureForm.{value_at}
+use Rattle.tv_structure_form.proofs.Library.{Contains-range, below-range}
 use Rattle.tv_embed.specs.Fits.{ValueFits, TupleFits, IsCandidate, PairFits, FitsSoFar, IsOnto}
 use Rattle.tv_embed.specs.Maps.{image_of, IsEmbedding, IsLeastEmbedding}
 use Rattle.tv_embed.specs.Search.{AreCandidates, BeginsWith, HasNoneWith, IsLeastWith}

@@ -22,12 +22,13 @@ use Rattle.tv_row.specs.Bits.{paired, padded, number_of, is_possible, is_certain
 use Rattle.tv_row.proofs.RowOps.{no_word, no_place}
 use Rattle.tv_row.proofs.WordOps.{length-paired, get_or-paired}
 use Rattle.tv_row.specs.Mixed.{mixed, row_mixed}
-use Rattle.tv_struct.proofs.StructureLaws.{no-replicate}
+use Rattle.tv_structure_form.proofs.StructureLaws.{no-replicate}
 use Rattle.tv_embed.specs.Maps.{image_of, IsEmbedding}
 use Rattle.tv_embedding_laws.specs.Embedding.{Embeds, IsEmbedded}
-use Rattle.tv_struct.specs.StructureForm.{StructureForm, arities_of, structure_of, value_at, summary_at}
+use Rattle.tv_structure_form.specs.StructureForm.{StructureForm, arities_of, structure_of, value_at}
+use Rattle.tv_structure_form.specs.StructureForm.{summary_at}
 use Rattle.tv_struct.specs.StructureRows.{flag_value}
-use Rattle.tv_struct.proofs.Library.{Contains-range, below-range, value_at-past}
+use Rattle.tv_structure_form.proofs.Library.{Contains-range, below-range, value_at-past}
 use Rattle.tv_cover.specs.Glance.{profile_of, nullary_value, value_near, profile_near, GlanceForm, glance_of}
 use Rattle.tv_cover.specs.Glance.{LieUnder}
 use Rattle.tv_cover.specs.Glance.{MayEmbed, AreOnlyImages, IsOnlyMap, IsDefinite, AreKnown, profile_number}

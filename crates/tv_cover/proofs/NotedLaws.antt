@@ -13,7 +13,7 @@ use Rattle.std.proofs.lemmas.List.Elements.{Contains-push, Contains-append_left}
 use Rattle.std.proofs.lemmas.Option.{slice_get_within, get_or_from_slice_get, slice_get-get_or}
 use Rattle.tv_kleene.specs.declared.K3.{K3}
 use Rattle.tv_embedding_laws.specs.Embedding.{IsEmbedded}
-use Rattle.tv_struct.specs.StructureForm.{StructureForm, arities_of, structure_of}
+use Rattle.tv_structure_form.specs.StructureForm.{StructureForm, arities_of, structure_of}
 use Rattle.tv_cover.specs.Glance.{GlanceForm, glance_of, AreKnown, AreSummaries, AreWithin, glance_number}
 use Rattle.tv_cover.specs.Noted.{Finds, IsNoted, Notes, noted_for}
 use Rattle.tv_cover.specs.Indexed.{AreIndexed, AreIndexedTo, glances_of}

@@ -1,7 +1,7 @@
 -- Which of several structures covers a structure.
 use Rattle.std.specs.Prelude.{ℕ, ◌≡◌, ◌<◌, List, Contains, Some, slice_get}
 use Rattle.tv_embedding_laws.specs.Embedding.{IsEmbedded}
-use Rattle.tv_struct.specs.StructureForm.{StructureForm, structure_of}
+use Rattle.tv_structure_form.specs.StructureForm.{StructureForm, structure_of}
 use Rattle.tv_embed.specs.Maps.{IsLeastEmbedding}
 
 -- the target of this place is the first that covers s, and the map is the least embedding in it

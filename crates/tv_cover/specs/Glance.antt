@@ -7,7 +7,7 @@ use Rattle.tv_kleene.specs.declared.K3.TheVariants.{No, Half, Yes}
 use Rattle.tv_kleene.specs.Kleene.{LiesUnder, larger_of, smaller_of}
 use Rattle.tv_row.specs.Bits.{paired}
 use Rattle.tv_row.specs.Mixed.{mixed, row_mixed}
-use Rattle.tv_struct.specs.StructureForm.{StructureForm, value_at, summary_at}
+use Rattle.tv_structure_form.specs.StructureForm.{StructureForm, value_at, summary_at}
 use Rattle.tv_struct.specs.StructureRows.{flag_value}
 
 -- 256 values: a first one, and behind it one of each of the first 255 predicates

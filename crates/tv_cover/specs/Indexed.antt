@@ -1,6 +1,6 @@
 -- Structures of which all places are noted.
 use Rattle.std.specs.Prelude.{ℕ, ◌≡◌, ◌<◌, List, Some, map, slice_get}
-use Rattle.tv_struct.specs.StructureForm.{StructureForm}
+use Rattle.tv_structure_form.specs.StructureForm.{StructureForm}
 use Rattle.tv_cover.specs.Glance.{GlanceForm, glance_of}
 use Rattle.tv_cover.specs.Noted.{IsNoted}
 use Rattle.tv_cover.specs.declared.noted.Noted.{Noted}

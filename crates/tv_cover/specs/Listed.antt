@@ -1,7 +1,7 @@
 -- The structures of a node.
 use Rattle.std.specs.Prelude.{List}
 use Rattle.tv_listing.specs.ListingForm.{at_node}
-use Rattle.tv_struct.specs.StructureForm.{StructureForm}
+use Rattle.tv_structure_form.specs.StructureForm.{StructureForm}
 use Rattle.tv_cover.specs.declared.targets.Listed.{Listed}
 
 abbrev pub structures_in : Listed → List StructureForm

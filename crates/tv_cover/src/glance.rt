@@ -3,9 +3,9 @@
 ghost use Rattle.std.specs.Prelude.{◌≡◌, ◌≢◌, ◌<◌, ◌≤◌, ℕ, [], length, max, All, Any, IfOk, IfNone};
 ghost use Rattle.std.specs.Prelude.{IfSome, IsTrue, slice_index_or, slice_set};
 ghost use Rattle.tv_kleene.specs.declared.K3.TheVariants.{No, Half, Yes};
-ghost use Rattle.tv_struct.specs.StructureForm.{arities_of, value_at, summary_at};
+ghost use Rattle.tv_structure_form.specs.StructureForm.{arities_of, value_at, summary_at};
 ghost use Rattle.tv_struct.specs.StructureRows.{flag_value};
-ghost use Rattle.tv_struct.specs.TableForm.{AreIndividuals};
+ghost use Rattle.tv_structure_form.specs.TableForm.{AreIndividuals};
 ghost use Rattle.tv_struct.specs.TupleForm.{tuple_of};
 ghost use Rattle.tv_cover.specs.Glance.{AreKnown, AreOnlyImages, AreSummaries, IsOnlyMap, LieUnder, MayEmbed};
 ghost use Rattle.tv_cover.specs.Glance.{slot_of, glance_number, glance_of, nullary_value, profile_near};

@@ -6,7 +6,7 @@ ghost use Rattle.std.specs.List.Sorted.{IsNonDecreasing};
 ghost use Rattle.tv_embed.specs.Maps.{IsLeastEmbedding};
 ghost use Rattle.tv_embedding_laws.specs.Embedding.{IsEmbedded};
 ghost use Rattle.tv_listing.specs.ListingForm.{at_node};
-ghost use Rattle.tv_struct.specs.StructureForm.{StructureForm, arities_of, structure_of};
+ghost use Rattle.tv_structure_form.specs.StructureForm.{StructureForm, arities_of, structure_of};
 ghost use Rattle.tv_cover.specs.Covers.{IsFirstCover, IsCoverAt, HasNoCoverAt, HasCoversAmong};
 ghost use Rattle.tv_cover.specs.Glance.{IsOnlyMap, glance_of};
 ghost use Rattle.tv_cover.specs.Indexed.{AreIndexed, glances_of};
@@ -34,7 +34,7 @@ pub struct Targets<'a> {
 impl<'a> Model for Targets<'a> {
     ghost use Rattle.std.specs.Prelude.{List, ◌≡◌, ◌<◌, length};
     ghost use Rattle.tv_listing.specs.ListingForm.{at_node};
-    ghost use Rattle.tv_struct.specs.StructureForm.{StructureForm};
+    ghost use Rattle.tv_structure_form.specs.StructureForm.{StructureForm};
     ghost use Rattle.tv_cover.specs.Indexed.{AreIndexed, glances_of};
 
     ghost Value = { List StructureForm };
@@ -191,7 +191,7 @@ fn first_cover(
 }
 
 impl<'a> Targets<'a> {
-    /// The structures of the node. The only error is want of memory.
+    /// The structures of the node. The only error is lack of memory.
     fn of(alloc: Global, listing: &'a Listing, node: u32) -> Result<Targets<'a>, AllocError>
         requires { node < length listing.now }
         ensures { IfOk result (λ targets. targets ≡ at_node listing.now node) }
@@ -206,7 +206,7 @@ impl<'a> Targets<'a> {
 
     /// The first of the structures in which `s` embeds, by its place, with the lexicographically least
     /// embedding, as the list of the images of the individuals of `s` in order; none exactly where it embeds
-    /// in none. The only error is want of memory.
+    /// in none. The only error is lack of memory.
     ///
     /// Only structures that may cover `s` by what they say at a glance are tried, in their order.
     pub fn first_cover(
@@ -228,7 +228,7 @@ impl<'a> Targets<'a> {
     }
 }
 
-/// The structures of each node. The only error is want of memory.
+/// The structures of each node. The only error is lack of memory.
 pub fn all_targets<'a>(
     alloc: Global,
     listing: &'a Listing,

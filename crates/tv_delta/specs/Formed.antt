@@ -29,7 +29,7 @@ abbrev pub formed_at : Affecting → (q : ℕ) → (vars : List ℕ) → Form �
 formed_at a q vars body =
     formed (program_of a.program.now) (action_of a.action.now) a.affected.now q vars body
 
--- the answer is this update; the call stops only where there is none, or for want of memory
+-- the answer is this update; the call stops only where there is none, or for lack of memory
 abbrev pub Forms : (q : ℕ) → Result Update Stop → Answer → Type 0
 Forms q (Ok w) answer =
     (vars : List ℕ) × (f : Form) × (answer ≡ DTo vars f)

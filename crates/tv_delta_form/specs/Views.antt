@@ -23,7 +23,7 @@ use Rattle.tv_delta_form.specs.declared.stop.Stop.TheVariants.{Unformed}
 pub record StopsUnformed {X : Type 0} (e : Stop) (defined : Option X) : Type 0 where
   pub none : e ≡ Unformed → defined ≡ None
 
--- what a call gives, seen by view, is what is defined; it stops only where nothing is, or for want of memory
+-- what a call gives, seen by view, is what is defined; it stops only where nothing is, or for lack of memory
 abbrev pub GivesFormed : {X Y : Type 0} → (X → Y) → Result X Stop → Option Y → Type 0
 GivesFormed view (Ok x) defined = defined ≡ Some (view x)
 GivesFormed view (Err e) defined = StopsUnformed e defined

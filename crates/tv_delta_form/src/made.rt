@@ -15,7 +15,7 @@ use std::alloc::{AllocError, Global};
 use tv_model::{Formula, PredId, Terms, Var};
 
 impl Shared {
-    /// The same formula once more.
+    /// A further reference to the formula, whose parts are shared.
     pub(crate) fn again(&self) -> Result<Shared, AllocError>
         ensures { IfOk result (λ s. form_at s ≡ form_at self.now) }
     {

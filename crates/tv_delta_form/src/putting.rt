@@ -2,7 +2,8 @@
 
 ghost use Rattle.std.specs.Prelude.{◌≡◌, ◌+◌, ◌≤◌, ◌++◌, ◌||◌, Some, map, IfOk};
 ghost use Rattle.tv_model.specs.Form.{form_of, vars_of, FExists};
-ghost use Rattle.tv_delta_laws.specs.Putting.{has, variables, is_free, argument_for, arguments_of, under};
+ghost use Rattle.tv_model.specs.Free.{is_free};
+ghost use Rattle.tv_delta_laws.specs.Putting.{has, variables, argument_for, arguments_of, under};
 ghost use Rattle.tv_delta_laws.specs.Putting.{under_bound, bound_number, put_in, with_own, own_variables};
 ghost use Rattle.tv_delta_laws.specs.Deltas.{small_put};
 ghost use Rattle.tv_delta_laws.specs.Simple.{nodes};
@@ -18,7 +19,7 @@ use crate::heads::outermost;
 use crate::size::is_small;
 use crate::stop::Stop;
 use std::alloc::{AllocError, Global};
-use tv_model::{Binding, Formula, Terms, Var, bound_by};
+use tv_model::{Binding, Formula, Terms, Var, bound_by, free};
 
 /// What is put for a variable.
 #[derive(Clone, Copy, Debug)]
@@ -117,25 +118,7 @@ fn put_terms(m: &[Put], terms: &Terms) -> Terms
 fn is_free(f: &Formula, v: u8) -> bool
     ensures { result ≡ is_free v (form_of f.now) }
 {
-    match f {
-        Formula::Zero | Formula::One => false,
-        Formula::Atom(_, terms) => in_terms(terms, v),
-        Formula::IsNew(w) => v == w.0,
-        Formula::Same(w, u) => v == w.0 || v == u.0,
-        Formula::Not(g) => is_free(g, v),
-        Formula::And(g, h) | Formula::Or(g, h) | Formula::Iff(g, h) => {
-            is_free(g, v) || is_free(h, v)
-        }
-        Formula::Cond(c, g, h) => is_free(c, v) || is_free(g, v) || is_free(h, v),
-        Formula::Exists(w, g) | Formula::Forall(w, g) => v != w.0 && is_free(g, v),
-        Formula::Closure {
-            from,
-            to,
-            left,
-            right,
-            body,
-        } => v == from.0 || v == to.0 || (v != left.0 && v != right.0 && is_free(body, v)),
-    }
+    free(f, Var(v))
 }
 
 /// What a bound variable is bound over: a formula, or a quantifier of one more variable over it.

@@ -11,47 +11,11 @@ use Rattle.tv_model.specs.Form.{Form, FZero, FOne, FAtom, FIsNew, FSame, FNot, F
 use Rattle.tv_model.specs.Form.{FExists, FForall, FClosure, IsFree}
 use Rattle.tv_model.specs.Valid.{IsVariable}
 use Rattle.tv_model.proofs.Lists.{Contains-here, Contains-there}
-use Rattle.tv_delta_laws.specs.Putting.{has, least_slot, variables, is_free, Arguments, argument_for}
+use Rattle.tv_model.specs.Free.{is_free}
+use Rattle.tv_model.proofs.FreeTests.{from-free}
+use Rattle.tv_delta_laws.specs.Putting.{has, least_slot, variables, Arguments, argument_for}
 use Rattle.tv_delta_laws.specs.Putting.{arguments_of, Reserved, under, bound_number, under_bound}
 use Rattle.tv_delta_laws.proofs.Options.{has-from, has-not, least-slot_free}
-
--- ---- free variables
-
-pub free-from : (v : ℕ) (f : Form) → IsFree v f → is_free v f ≡ true
-free-from v FZero free = absurd free
-free-from v FOne free = absurd free
-free-from v (FAtom q vars) free = has-from vars v free
-free-from v (FIsNew w) free = eq-eqb v w free
-free-from v (FSame w u) free =
-    ⊎_elim (λ e. or_left (eqb v w) (eqb v u) (eq-eqb v w e)) (λ e. or_right (eqb v w) (eqb v u) (eq-eqb v u e)) free
-free-from v (FNot f) free = free-from v f free
-free-from v (FAnd f g) free =
-    ⊎_elim (λ t. or_left (is_free v f) (is_free v g) (free-from v f t))
-    (λ t. or_right (is_free v f) (is_free v g) (free-from v g t)) free
-free-from v (FOr f g) free =
-    ⊎_elim (λ t. or_left (is_free v f) (is_free v g) (free-from v f t))
-    (λ t. or_right (is_free v f) (is_free v g) (free-from v g t)) free
-free-from v (FIff f g) free =
-    ⊎_elim (λ t. or_left (is_free v f) (is_free v g) (free-from v f t))
-    (λ t. or_right (is_free v f) (is_free v g) (free-from v g t)) free
-free-from v (FCond c f g) free =
-    ⊎_elim (λ t. or_left (is_free v c) (is_free v f || is_free v g) (free-from v c t))
-    (λ t. or_right (is_free v c) (is_free v f || is_free v g)
-    (⊎_elim (λ s. or_left (is_free v f) (is_free v g) (free-from v f s))
-    (λ s. or_right (is_free v f) (is_free v g) (free-from v g s)) t)) free
-free-from v (FExists w f) free =
-    and_from (not (eqb v w)) (is_free v f) (not_from_false (eqb v w) (ne_eqb v w free.0)) (free-from v f free.1)
-free-from v (FForall w f) free =
-    and_from (not (eqb v w)) (is_free v f) (not_from_false (eqb v w) (ne_eqb v w free.0)) (free-from v f free.1)
-free-from v (FClosure from to left right f) free =
-    let inner : Bool = not (eqb v right) && is_free v f
-    in let body : Bool = not (eqb v left) && inner
-    in ⊎_elim (λ e. or_left (eqb v from) (eqb v to || body) (eq-eqb v from e))
-    (λ t. or_right (eqb v from) (eqb v to || body)
-    (⊎_elim (λ e. or_left (eqb v to) body (eq-eqb v to e))
-    (λ s. or_right (eqb v to) body
-    (and_from (not (eqb v left)) inner (not_from_false (eqb v left) (ne_eqb v left s.0))
-    (and_from (not (eqb v right)) (is_free v f) (not_from_false (eqb v right) (ne_eqb v right s.1)) (free-from v f s.2)))) t)) free
 
 two-stand : (v : ℕ) (f g : Form) → Contains (variables f) v ⊎ Contains (variables g) v
     → Contains (variables f ++ variables g) v
@@ -130,7 +94,7 @@ filtered-nothing keep (e ∷ m) x fails = go (keep e.0) refl (filtered-nothing k
     go false same later = later
 
 free-under : (x v : ℕ) (f : Form) → IsFree x f → x ≢ v → is_free x (FExists v f) ≡ true
-free-under x v f free ne = free-from x (FExists v f) (ne, free)
+free-under x v f free ne = from-free x (FExists v f) (ne, free)
 
 pub under-same : (m : Arguments) (v w : ℕ) (f : Form) (x : ℕ) → x ≡ v → argument_for (under_bound m v w f) x ≡ w
 under-same m v w f x e = go (eqb w v) refl

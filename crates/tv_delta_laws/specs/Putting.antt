@@ -6,6 +6,7 @@ use Rattle.std.specs.Prelude.{None, if◌then◌else◌, option_map, option_and_
 use Rattle.std.specs.List.{find, list_any, range_with_len}
 use Rattle.tv_model.specs.Form.{Form, FZero, FOne, FAtom, FIsNew, FSame, FNot, FAnd, FOr, FIff, FCond}
 use Rattle.tv_model.specs.Form.{FExists, FForall, FClosure}
+use Rattle.tv_model.specs.Free.{is_free}
 
 -- the number is in the list
 abbrev pub has : List ℕ → ℕ → Bool
@@ -30,23 +31,6 @@ variables (FCond c f g) = variables c ++ (variables f ++ variables g)
 variables (FExists v f) = v ∷ variables f
 variables (FForall v f) = v ∷ variables f
 variables (FClosure from to left right f) = from ∷ to ∷ left ∷ right ∷ variables f
-
--- the variable stands free in the formula, as a test
-abbrev pub is_free : ℕ → Form → Bool
-is_free v FZero = has [] v
-is_free v FOne = has [] v
-is_free v (FAtom pred vars) = has vars v
-is_free v (FIsNew w) = v == w
-is_free v (FSame w u) = (v == w) || (v == u)
-is_free v (FNot f) = is_free v f
-is_free v (FAnd f g) = is_free v f || is_free v g
-is_free v (FOr f g) = is_free v f || is_free v g
-is_free v (FIff f g) = is_free v f || is_free v g
-is_free v (FCond c f g) = is_free v c || (is_free v f || is_free v g)
-is_free v (FExists w f) = not (v == w) && is_free v f
-is_free v (FForall w f) = not (v == w) && is_free v f
-is_free v (FClosure from to left right f) =
-    (v == from) || ((v == to) || (not (v == left) && (not (v == right) && is_free v f)))
 
 -- what is put for variables: each variable at most once, beside its argument
 abbrev pub Arguments : Type 0

@@ -1,1 +1,3 @@
+pub mod EdgePlaces
+pub mod Widths
 pub mod Heads

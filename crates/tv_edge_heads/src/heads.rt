@@ -1,17 +1,17 @@
 //! The heads of control edges.
 
-ghost use Rattle.std.specs.Prelude.{◌≡◌, IfOk, Ok, Option};
-ghost use Rattle.tv_edge_places.specs.EdgePlaces.{IsOnLine};
-ghost use Rattle.tv_lex.specs.Parts.{AreParts};
+ghost use Rattle.std.specs.Prelude.{◌≡◌, IfOk, List, Ok};
+ghost use Rattle.tv_edge_heads.specs.EdgePlaces.{IsOnLine};
+ghost use Rattle.tv_lex.specs.Parts.{IsMadeOf};
 ghost use Rattle.tv_lex.specs.Pieces.{Reads};
 ghost use Rattle.tv_lex.specs.Token.{spec_tokens};
-ghost use Rattle.tv_outside.specs.Told.{Held};
+ghost use Rattle.tv_lex.specs.Traced.{Traced};
 ghost use Rattle.tv_parse.specs.Grammar.{IsProgram};
 ghost use Rattle.tv_tree.specs.Copies.{edge_of, program_of};
 ghost use Rattle.tv_edge_heads.specs.Heads.{AreHeads, IsHead, IsHeadOf, head_at};
 
+use crate::places::edge_places;
 use std::alloc::{AllocError, Global};
-use tv_edge_places::edge_places;
 use tv_file_lines::{FileLine, FileLines, append_file_line};
 use tv_lex::{Gathered, Tokens};
 use tv_model::Bytes;
@@ -38,9 +38,8 @@ fn head_from(
     edge: &EdgeTree<'_>,
 ) -> Result<Bytes, AllocError>
     ensures same { lines.new ≡ lines.old }
-    ensures head { IfOk result (λ head. (told : Option Held)
-        → AreParts told 0 lines.old.parts.items lines.old.bytes.items → IsOnLine lines.old.bytes.items place
-        → IsHead told lines.old.bytes.items (edge_of edge.now) place head) }
+    ensures head { IfOk result (λ head. (traced : List Traced) → IsMadeOf traced lines.old
+        → IsOnLine lines.old.bytes.items place → IsHead traced (edge_of edge.now) place head) }
 {
     let Some(at) = lines.line_at(place as usize) else {
         return Ok(Bytes::new(alloc));
@@ -48,13 +47,13 @@ fn head_from(
     head_of(alloc, &at, edge)
 }
 
-/// The heads of the control edges of a program, in their order. A head is the line of a file in which the
-/// edge begins, and the edge as it is printed, in one line without a line feed:
+/// The heads of the control edges of a program, in their order. A head is the line of a file of which the
+/// edge's first byte is, and the edge as it is printed, in one line without a line feed:
 /// `program.tvp:41  L2 Get_Next_L ( x , y ) L3`. The tokens are those of the gathered text, and the tree is
 /// theirs.
 ///
 /// # Errors
-/// Want of memory.
+/// Lack of memory.
 pub fn edge_heads(
     alloc: Global,
     gathered: &Gathered,
@@ -64,9 +63,8 @@ pub fn edge_heads(
     requires reads { Reads gathered.now.bytes.items (Ok tokens.now.list.items) }
     requires program { IsProgram
         (spec_tokens gathered.now.bytes.items tokens.now.list.items) (program_of tree.now) }
-    ensures { IfOk result (λ heads. (told : Option Held)
-        → AreParts told 0 gathered.now.parts.items gathered.now.bytes.items
-        → AreHeads told gathered.now.bytes.items (program_of tree.now) heads.items) }
+    ensures { IfOk result (λ heads. (traced : List Traced) → IsMadeOf traced gathered.now
+        → AreHeads traced gathered.now.bytes.items (program_of tree.now) heads.items) }
 {
     let edges = tree.edges.as_slice();
     let places = edge_places(alloc, tokens, tree)?;

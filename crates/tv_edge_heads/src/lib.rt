@@ -2,5 +2,6 @@
 #![tactic(auto)]
 
 mod heads;
+mod places;
 
 pub use heads::{edge_heads, head_at};

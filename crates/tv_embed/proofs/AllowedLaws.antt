@@ -7,7 +7,7 @@ use Rattle.tv_kleene.specs.declared.K3.TheVariants.{No, Half, Yes}
 use Rattle.tv_kleene.specs.Kleene.{LiesUnder, negation_of, smaller_of}
 use Rattle.tv_row.proofs.WordOps.{get_or-paired, length-paired}
 use Rattle.tv_row.specs.Bits.{paired}
-use Rattle.tv_struct.specs.StructureForm.{StructureForm, arities_of, value_at}
+use Rattle.tv_structure_form.specs.StructureForm.{StructureForm, arities_of, value_at}
 use Rattle.tv_struct.specs.StructureRows.{unary_row}
 use Rattle.tv_struct.proofs.Library.{get_or-unary_row, length-unary_row}
 use Rattle.tv_embed.specs.Fits.{FitsSoFar, IsCandidate}

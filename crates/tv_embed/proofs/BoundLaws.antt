@@ -4,7 +4,7 @@ use Rattle.std.proofs.Common.{subst, ◌∙◌, arith}
 use Rattle.std.specs.Prelude.{All, Contains}
 use Rattle.std.proofs.lemmas.Bool.{cases_lt, cases_eq}
 use Rattle.std.proofs.lemmas.List.{get_or_default, get_or-take, length-set, get_or-set_same, get_or-set_other}
-use Rattle.tv_struct.specs.StructureForm.{StructureForm}
+use Rattle.tv_structure_form.specs.StructureForm.{StructureForm}
 use Rattle.tv_embed.specs.Maps.{image_of}
 use Rattle.tv_embed.specs.Fits.{IsCandidate}
 use Rattle.tv_embed.specs.Search.{HasNoneWith, AreCandidates, AreBounds, LeavesOne}

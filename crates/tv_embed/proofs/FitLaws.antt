@@ -9,7 +9,7 @@ use Rattle.std.proofs.lemmas.List.{length-take-le}
 use Rattle.tv_kleene.specs.declared.K3.{K3}
 use Rattle.tv_kleene.specs.declared.K3.TheVariants.{No}
 use Rattle.tv_kleene.specs.Kleene.{LiesUnder}
-use Rattle.tv_struct.specs.StructureForm.{StructureForm, summary_at, value_at}
+use Rattle.tv_structure_form.specs.StructureForm.{StructureForm, summary_at, value_at}
 use Rattle.tv_struct.specs.StructureRows.{row_at}
 use Rattle.tv_struct.proofs.Library.{get_or-row_at}
 use Rattle.tv_embed.specs.Maps.{image_of}

@@ -13,10 +13,11 @@ use Rattle.tv_kleene.specs.Kleene.{LiesUnder}
 use Rattle.tv_embedding_laws.specs.LogicalStructure.{heap_structure}
 use Rattle.tv_embedding_laws.specs.Embedding.{Embeds}
 use Rattle.tv_embedding_laws.proofs.EmbeddingLaws.{EmbedsOn-compose}
-use Rattle.tv_struct.specs.TableForm.{AreIndividuals, no_plane}
-use Rattle.tv_struct.specs.StructureForm.{StructureForm, IsStructure, structure_of, arities_of, value_at}
-use Rattle.tv_struct.specs.StructureForm.{summary_at}
-use Rattle.tv_struct.proofs.Library.{Contains-range, below-range, AreIndividuals-range, fits_or_No}
+use Rattle.tv_structure_form.specs.TableForm.{AreIndividuals, no_plane}
+use Rattle.tv_structure_form.specs.StructureForm.{StructureForm, IsStructure, structure_of, arities_of}
+use Rattle.tv_structure_form.specs.StructureForm.{value_at}
+use Rattle.tv_structure_form.specs.StructureForm.{summary_at}
+use Rattle.tv_structure_form.proofs.Library.{Contains-range, below-range, AreIndividuals-range, fits_or_No}
 use Rattle.tv_embed.specs.Maps.{image_of, IsEmbedding, HeapsStay}
 use Rattle.tv_embed.specs.Laws.{StructuresEmbedInThemselves}
 use Rattle.tv_embed.specs.Fits.{TupleFits, FitsSoFar, IsOnto}

@@ -17,9 +17,10 @@ use Rattle.std.proofs.lemmas.List.Folds.{list_any_at}
 use Rattle.tv_lemmas.proofs.Orderings.{le_same}
 use Rattle.tv_kleene.specs.Kleene.{LiesUnder}
 use Rattle.tv_embedding_laws.specs.Embedding.{Embeds, IsEmbedded}
-use Rattle.tv_struct.specs.StructureForm.{StructureForm, IsStructure, structure_of, arities_of, value_at}
-use Rattle.tv_struct.specs.StructureForm.{summary_at}
-use Rattle.tv_struct.proofs.Library.{below-range}
+use Rattle.tv_structure_form.specs.StructureForm.{StructureForm, IsStructure, structure_of, arities_of}
+use Rattle.tv_structure_form.specs.StructureForm.{value_at}
+use Rattle.tv_structure_form.specs.StructureForm.{summary_at}
+use Rattle.tv_structure_form.proofs.Library.{below-range}
 use Rattle.tv_embed.specs.Maps.{image_of, IsEmbedding}
 use Rattle.tv_embed.specs.Fits.{TupleFits, IsCandidate, JoinsUp, FitsSoFar, IsOnto}
 use Rattle.tv_embed.specs.Search.{BeginsWith, IsLeastWith, HasNoneWith, IsSearched, AreCandidates}

@@ -1,7 +1,7 @@
 -- What an embedding asks of one individual after the other.
 use Rattle.std.specs.Prelude.{ℕ, ◌≡◌, ◌<◌, List, [], ◌∷◌, length, Some, slice_get, IsTrue, Contains}
 use Rattle.tv_kleene.specs.Kleene.{LiesUnder}
-use Rattle.tv_struct.specs.StructureForm.{StructureForm, arities_of, value_at, summary_at}
+use Rattle.tv_structure_form.specs.StructureForm.{StructureForm, arities_of, value_at, summary_at}
 use Rattle.tv_embed.specs.Maps.{image_of}
 
 -- a predicate of the tuple's arity has at the tuple below a value under that at the tuple above

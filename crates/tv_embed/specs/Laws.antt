@@ -1,6 +1,6 @@
 -- Laws of maps, as statements.
 use Rattle.std.specs.List.{range_with_len}
-use Rattle.tv_struct.specs.StructureForm.{StructureForm}
+use Rattle.tv_structure_form.specs.StructureForm.{StructureForm}
 use Rattle.tv_embed.specs.Maps.{IsEmbedding}
 
 -- the map that moves nothing embeds a structure in itself

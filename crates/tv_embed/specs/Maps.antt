@@ -5,7 +5,7 @@ use Rattle.std.specs.Cmp.Lexicographic.{slice_cmp}
 use Rattle.std.specs.Prelude.{IsTrue}
 use Rattle.tv_model.specs.Heap.{Heap}
 use Rattle.tv_embedding_laws.specs.Embedding.{Embeds, IsHeapOf}
-use Rattle.tv_struct.specs.StructureForm.{StructureForm, structure_of}
+use Rattle.tv_structure_form.specs.StructureForm.{StructureForm, structure_of}
 
 -- where a map, as the list of the individuals' images, takes an individual
 abbrev pub image_of : (images : List ℕ) → ℕ → ℕ

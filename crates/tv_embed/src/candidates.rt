@@ -4,7 +4,7 @@ ghost use Rattle.std.specs.Prelude.{◌≡◌, ◌≢◌, ◌<◌, ◌+◌, ◌+
 ghost use Rattle.std.specs.Prelude.{IfNone, IfSome, OnOk, slice_index_or};
 ghost use Rattle.tv_kleene.specs.declared.K3.TheVariants.{No};
 ghost use Rattle.tv_kleene.specs.Kleene.{LiesUnder};
-ghost use Rattle.tv_struct.specs.StructureForm.{arities_of};
+ghost use Rattle.tv_structure_form.specs.StructureForm.{arities_of};
 ghost use Rattle.tv_embed.specs.Search.{AllowsAll, AreCandidates, AreAllCandidates, HasNoneWith};
 
 use crate::fits::is_candidate;

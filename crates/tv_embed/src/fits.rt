@@ -3,8 +3,8 @@
 ghost use Rattle.std.specs.Prelude.{◌≡◌, ◌<◌, ◌↔◌, ℕ, List, [], ◌∷◌, length, Some, slice_get, IsTrue};
 ghost use Rattle.std.specs.Prelude.{Contains};
 ghost use Rattle.std.specs.Bool.{OnFalse};
-ghost use Rattle.tv_struct.specs.StructureForm.{StructureForm, arities_of, summary_at};
-ghost use Rattle.tv_struct.specs.TableForm.{AreIndividuals};
+ghost use Rattle.tv_structure_form.specs.StructureForm.{StructureForm, arities_of, summary_at};
+ghost use Rattle.tv_structure_form.specs.TableForm.{AreIndividuals};
 ghost use Rattle.tv_struct.specs.TupleForm.{tuple_of};
 ghost use Rattle.tv_embed.specs.Fits.{ValueFits, TupleFits, IsCandidate, JoinsUp, ValueNearFits};
 ghost use Rattle.tv_embed.specs.Fits.{ValuesJoinUp};
@@ -73,7 +73,7 @@ fn value_near_fits(small: &Structure, large: &Structure, p: PredId, u: u32, w: u
     }
 }
 
-/// The same of each predicate.
+/// Whether each predicate's values at `u`, alone and as a pair, lie under those at `w`.
 fn values_near_fit(small: &Structure, large: &Structure, u: u32, w: u32) -> bool
     requires vocabulary { arities_of small.now ≡ arities_of large.now }
     requires in_small { u < small.now.size }

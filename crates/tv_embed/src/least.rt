@@ -2,7 +2,7 @@
 
 ghost use Rattle.std.specs.Prelude.{◌≡◌, IfOk, IfSome, IfNone, IsSome};
 ghost use Rattle.tv_embedding_laws.specs.Embedding.{IsEmbedded};
-ghost use Rattle.tv_struct.specs.StructureForm.{arities_of, structure_of};
+ghost use Rattle.tv_structure_form.specs.StructureForm.{arities_of, structure_of};
 ghost use Rattle.tv_embed.specs.Maps.{IsLeastEmbedding, HeapsStay};
 ghost use Rattle.tv_embed.specs.Search.{IsSearched, AreAllCandidates};
 

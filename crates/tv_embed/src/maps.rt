@@ -2,7 +2,7 @@
 
 ghost use Rattle.std.specs.Prelude.{◌≡◌, ◌<◌, ◌↔◌, ◌+◌, ◌++◌, ◌==◌, ◌∷◌, [], length, take, IsTrue, Contains};
 ghost use Rattle.std.specs.List.{list_any};
-ghost use Rattle.tv_struct.specs.StructureForm.{arities_of};
+ghost use Rattle.tv_structure_form.specs.StructureForm.{arities_of};
 ghost use Rattle.tv_embed.specs.Fits.{FitsSoFar, IsOnto};
 ghost use Rattle.tv_embed.specs.Maps.{image_of, IsEmbedding, HeapsStay};
 

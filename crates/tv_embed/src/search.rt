@@ -2,7 +2,7 @@
 
 ghost use Rattle.std.specs.Prelude.{◌≡◌, ◌<◌, ◌≤◌, ◌+◌, ◌++◌, [], ◌∷◌, length, IfOk};
 ghost use Rattle.std.specs.Bool.{OnFalse};
-ghost use Rattle.tv_struct.specs.StructureForm.{arities_of};
+ghost use Rattle.tv_structure_form.specs.StructureForm.{arities_of};
 ghost use Rattle.tv_embed.specs.Fits.{FitsSoFar, IsCandidate};
 ghost use Rattle.tv_embed.specs.Search.{IsSearched, HasNoneWith, AreAllCandidates, AreBounds, IsOutOfReach};
 ghost use Rattle.tv_embed.specs.Search.{LeavesOne, missing_below};
@@ -42,7 +42,7 @@ pub fn search(
     Ok(false)
 }
 
-/// The same with `w` as the next image.
+/// Extends the images and `w` behind them to the least such embedding, or leaves them as they were.
 #[cycle(search)]
 fn try_image(
     small: &Structure,

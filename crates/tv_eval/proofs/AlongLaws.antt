@@ -11,7 +11,7 @@ use Rattle.tv_kleene.specs.declared.K3.TheVariants.{No, Half, Yes}
 use Rattle.tv_kleene.specs.Kleene.{negation_of}
 use Rattle.tv_model.specs.Form.{Form, FClosure, IsFree}
 use Rattle.tv_model.specs.Truth.{Assignment, put}
-use Rattle.tv_struct.specs.StructureForm.{StructureForm, structure_of, value_at}
+use Rattle.tv_structure_form.specs.StructureForm.{StructureForm, structure_of, value_at}
 use Rattle.tv_embedding_laws.specs.LogicalStructure.{LogicalStructure}
 use Rattle.tv_eval_laws.specs.Value.{value, best_walk, same_value}
 use Rattle.tv_eval_laws.proofs.Rounds.{best_walk-same}

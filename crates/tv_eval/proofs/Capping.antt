@@ -12,7 +12,7 @@ use Rattle.tv_kleene.specs.Kleene.{smaller_of, larger_of, negation_of}
 use Rattle.tv_model.specs.Form.{Form, FAnd, FOr, IsFree, height}
 use Rattle.tv_model.specs.Truth.{Assignment, put}
 use Rattle.tv_model.specs.Valid.{IsFormulaOver}
-use Rattle.tv_struct.specs.StructureForm.{StructureForm, structure_of}
+use Rattle.tv_structure_form.specs.StructureForm.{StructureForm, structure_of}
 use Rattle.tv_row.specs.Bits.{paired, padded}
 use Rattle.tv_row.proofs.WordOps.{length-paired, get_or-paired, length-padded, get_or-padded}
 use Rattle.tv_eval_laws.specs.Value.{value, greatest_of}

@@ -11,7 +11,7 @@ use Rattle.std.proofs.lemmas.List.{get_or-set_same, get_or-set_other}
 use Rattle.tv_kleene.specs.declared.K3.{K3}
 use Rattle.tv_model.specs.Form.{Form, form_of, IsFree}
 use Rattle.tv_model.specs.Truth.{Assignment, put}
-use Rattle.tv_struct.specs.StructureForm.{StructureForm, structure_of, arities_of}
+use Rattle.tv_structure_form.specs.StructureForm.{StructureForm, structure_of, arities_of}
 use Rattle.tv_eval_laws.specs.Value.{value, best_walk}
 use Rattle.tv_eval_laws.proofs.Agreed.{only_free_variables_matter}
 use Rattle.tv_eval_laws.proofs.Rounds.{best_walk-same}

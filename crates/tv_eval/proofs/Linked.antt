@@ -19,7 +19,7 @@ use Rattle.tv_model.specs.Form.{FExists, FForall, FClosure, IsFree}
 use Rattle.tv_model.specs.Truth.{Assignment, put}
 use Rattle.tv_model.specs.Valid.{IsFormulaOver, IsVariable}
 use Rattle.tv_row.specs.Bits.{paired, padded}
-use Rattle.tv_struct.specs.StructureForm.{StructureForm, structure_of, arities_of}
+use Rattle.tv_structure_form.specs.StructureForm.{StructureForm, structure_of, arities_of}
 use Rattle.tv_embedding_laws.specs.LogicalStructure.{LogicalStructure}
 use Rattle.tv_eval_laws.specs.Value.{value}
 use Rattle.tv_quantifiers.specs.declared.quantifier.Quantifier.{Quantifier}
@@ -27,10 +27,11 @@ use Rattle.tv_quantifiers.specs.declared.quantifier.Quantifier.TheVariants.{Exis
 use Rattle.tv_quantifiers.specs.declared.runs.Level.{Level}
 use Rattle.tv_quantifiers.specs.Quantified.{turned}
 use Rattle.tv_quantifiers.specs.Runs.{under_run}
-use Rattle.tv_quantifiers.specs.Chains.{Signed, AreLinked, IsLinked, is_free, is_outside, is_taken}
+use Rattle.tv_model.specs.Free.{is_free}
+use Rattle.tv_quantifiers.specs.Chains.{Signed, AreLinked, IsLinked, is_outside, is_taken}
 use Rattle.tv_quantifiers.specs.Chains.{least_part}
 use Rattle.tv_quantifiers.specs.Chains.{across, best, parts_of, pushed}
-use Rattle.tv_quantifiers.proofs.FreeTests.{and-parts, from-free}
+use Rattle.tv_model.proofs.FreeTests.{and-parts, from-free}
 use Rattle.tv_quantifiers.proofs.Linking.{NotAmong, linked-first, linked-step, outside-among}
 use Rattle.tv_quantifiers.proofs.Quantifying.{turned-twice}
 use Rattle.tv_quantifiers.proofs.Running.{range-all}

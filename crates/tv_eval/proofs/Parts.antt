@@ -10,8 +10,8 @@ use Rattle.tv_model.specs.Form.{Form, FAtom, FNot, FAnd, FOr, FIff, FCond, FExis
 use Rattle.tv_model.proofs.Assignments.{put-same, put-other}
 use Rattle.tv_model.specs.Truth.{put}
 use Rattle.tv_model.proofs.Lists.{Contains-here, Contains-there}
-use Rattle.tv_struct.specs.TableForm.{HasEntry}
-use Rattle.tv_struct.specs.StructureForm.{StructureForm, table_of, arities_of}
+use Rattle.tv_structure_form.specs.TableForm.{HasEntry}
+use Rattle.tv_structure_form.specs.StructureForm.{StructureForm, table_of, arities_of}
 use Rattle.tv_eval.specs.AssignmentForm.{individual_for, assignment_of, IsAssigned}
 use Rattle.tv_eval.specs.Formulas.{HasRooms, nesting, sizes_of}
 use Rattle.tv_model.specs.Valid.{IsFormulaOver}
@@ -155,27 +155,6 @@ can-fill s a sizes inner from to left right f h rooms = record {
   assigned = λ w free. h.assigned w (inr (inr (free.0, free.1.0, free.1.1)));
   rooms = rooms;
 }
-
--- the first room and those behind it
-pub record SplitsRooms (size levels : ℕ) (front back : List (List (List K3))) : Type 0 where
-  pub first : (d : List (List K3)) → size ≤ length (get_or front 0 d)
-  pub behind : HasRooms size levels (sizes_of back)
-
-pub rooms-split : (size levels : ℕ) (rooms front back : List (List (List K3))) → rooms ≡ front ++ back → length
-    front ≡ 1
-    → HasRooms size (levels + 1) (sizes_of rooms) → SplitsRooms size levels front back
-rooms-split size levels rooms [] back e one h = absurd (omega (arith, one))
-rooms-split size levels rooms (room ∷ []) back e one h = parts
-    (subst (λ rs. HasRooms size (levels + 1) (sizes_of rs)) e h)
-  where
-    parts : HasRooms size (levels + 1) (length room ∷ sizes_of back) → SplitsRooms size levels (room ∷ []) back
-    parts own =
-        let l : levels + 1 ≤ suc (length (sizes_of back)) = own.count
-        in record {
-          first = λ d. own.each 0 0 (omega arith);
-          behind = record { count = omega arith; each = λ k d lt. own.each (suc k) d (omega arith) };
-        }
-rooms-split size levels rooms (room ∷ other ∷ rooms') back e one h = absurd (omega (arith, one))
 
 -- the entry of an atom
 pub entry_of_none : (s : StructureForm) (a : List (Option ℕ)) (sizes : List ℕ) (pred : ℕ)

@@ -7,7 +7,7 @@ use Rattle.tv_model.specs.Form.{FExists, FForall, FClosure, height}
 use Rattle.tv_model.specs.Program.{ProgramForm, PredForm, RuleForm, UpdateForm, MessageForm, ActionForm}
 use Rattle.tv_model.specs.Program.{program_of, pred_of}
 use Rattle.tv_model.specs.Valid.{IsFormulaOver}
-use Rattle.tv_struct.specs.StructureForm.{arities_of}
+use Rattle.tv_structure_form.specs.StructureForm.{arities_of}
 use Rattle.tv_eval.specs.Formulas.{nesting}
 use Rattle.tv_eval.specs.ScratchForm.{deepest, kind_height, change_height, pre_height, retain_height}
 use Rattle.tv_eval.specs.ScratchForm.{action_height, program_height}

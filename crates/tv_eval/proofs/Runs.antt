@@ -4,7 +4,7 @@ use Rattle.std.proofs.Common.{refl, sym, subst, ◌∙◌}
 use Rattle.std.specs.List.{range_with_len}
 use Rattle.tv_model.specs.Form.{Form, FExists}
 use Rattle.tv_model.specs.Valid.{IsFormulaOver}
-use Rattle.tv_struct.specs.StructureForm.{StructureForm, structure_of, arities_of}
+use Rattle.tv_structure_form.specs.StructureForm.{StructureForm, structure_of, arities_of}
 use Rattle.tv_eval_laws.specs.Value.{value}
 use Rattle.tv_quantifiers.specs.declared.quantifier.Quantifier.{Quantifier}
 use Rattle.tv_quantifiers.specs.declared.quantifier.Quantifier.TheVariants.{Exists, Forall}

@@ -1,7 +1,7 @@
 -- What evaluation needs, at each part of a formula.
 use Rattle.std.specs.Prelude.{ℕ, List, Option}
 use Rattle.tv_model.specs.Form.{Form}
-use Rattle.tv_struct.specs.StructureForm.{StructureForm, arities_of}
+use Rattle.tv_structure_form.specs.StructureForm.{StructureForm, arities_of}
 use Rattle.tv_eval.specs.Formulas.{AreAssigned, HasRooms, nesting}
 use Rattle.tv_model.specs.Valid.{IsFormulaOver}
 

@@ -4,7 +4,7 @@ use Rattle.tv_kleene.specs.declared.K3.{K3}
 use Rattle.tv_kleene.specs.declared.K3.TheVariants.{No}
 use Rattle.tv_model.specs.Form.{Form, IsFree}
 use Rattle.tv_model.specs.Truth.{Assignment, put}
-use Rattle.tv_struct.specs.StructureForm.{StructureForm, structure_of}
+use Rattle.tv_structure_form.specs.StructureForm.{StructureForm, structure_of}
 use Rattle.tv_eval_laws.specs.Value.{value}
 use Rattle.tv_quantifiers.specs.Quantified.{turned}
 use Rattle.tv_quantifiers.specs.Sets.{IsOutside, AgreeOutside}

@@ -4,7 +4,7 @@ use Rattle.std.specs.List.{range_with_len}
 use Rattle.tv_kleene.specs.declared.K3.{K3}
 use Rattle.tv_model.specs.Form.{Form}
 use Rattle.tv_model.specs.Truth.{Assignment, put}
-use Rattle.tv_struct.specs.StructureForm.{StructureForm, structure_of}
+use Rattle.tv_structure_form.specs.StructureForm.{StructureForm, structure_of}
 use Rattle.tv_eval_laws.specs.Value.{value, best_walk}
 use Rattle.tv_row.specs.Places.{entry_in}
 use Rattle.tv_quantifiers.specs.Rows.{IsSquare}

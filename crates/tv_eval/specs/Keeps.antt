@@ -4,7 +4,7 @@ use Rattle.tv_kleene.specs.declared.K3.{K3}
 use Rattle.tv_model.specs.Form.{Form, form_of, IsFree}
 use Rattle.tv_model.specs.Truth.{Assignment}
 use Rattle.tv_model.specs.Valid.{IsVariable}
-use Rattle.tv_struct.specs.StructureForm.{StructureForm, structure_of}
+use Rattle.tv_structure_form.specs.StructureForm.{StructureForm, structure_of}
 use Rattle.tv_quantifiers.specs.declared.edges.Edges.{Edges}
 use Rattle.tv_quantifiers.specs.Parts.{HoldsParts}
 use Rattle.tv_eval.specs.declared.kept.Kept.{Kept}

@@ -5,7 +5,7 @@ use Rattle.tv_model.specs.Form.{Form, height}
 use Rattle.tv_model.specs.Program.{ProgramForm, PredForm, KDefined, RuleForm, CTo, UpdateForm, RetainForm}
 use Rattle.tv_model.specs.Program.{MessageForm, ActionForm, program_of}
 use Rattle.tv_model.specs.Valid.{IsFormula, IsFormulaOver}
-use Rattle.tv_struct.specs.StructureForm.{StructureForm, IsOver, arities_of}
+use Rattle.tv_structure_form.specs.StructureForm.{StructureForm, IsOver, arities_of}
 use Rattle.tv_eval.specs.ScratchForm.{ScratchForm, HasScratchFor, IsMadeFor, program_height}
 
 -- no formula of the program is higher than n

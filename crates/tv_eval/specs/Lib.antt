@@ -4,6 +4,7 @@ pub mod Bound
 pub mod CanEvaluate
 pub mod Caps
 pub mod Formulas
+pub mod EvaluatorForm
 pub mod HoldsClosure
 pub mod Keeps
 pub mod Laws

@@ -3,7 +3,7 @@
 ghost use Rattle.std.specs.Prelude.{ℕ, ◌≡◌, ◌<◌, ◌==◌, List, Some, None, if◌then◌else◌, slice_set};
 ghost use Rattle.tv_model.specs.Form.{Form};
 ghost use Rattle.tv_model.specs.Truth.{put};
-ghost use Rattle.tv_struct.specs.StructureForm.{StructureForm};
+ghost use Rattle.tv_structure_form.specs.StructureForm.{StructureForm};
 ghost use Rattle.tv_quantifiers.specs.Runs.{AreVariables, AreWithin, placed, under_run};
 ghost use Rattle.tv_eval.specs.AssignmentForm.{individual_for, assignment_of};
 ghost use Rattle.tv_eval.specs.CanEvaluate.{CanEvaluate};

@@ -1,24 +1,29 @@
 //! An evaluator that is bound to one structure.
 
-ghost use Rattle.std.specs.Prelude.{◌≡◌, ◌<◌, ◌≤◌, ◌*◌};
+ghost use Rattle.std.specs.Prelude.{ℕ, ◌≡◌, ◌<◌, ◌≤◌, ◌+◌, ◌-◌, ◌*◌, length, IfSome};
+ghost use Rattle.tv_model.specs.Truth.{Assignment as Assigned};
+ghost use Rattle.tv_quantifiers.specs.Rows.{IsPart, part_at};
+ghost use Rattle.tv_structure_form.specs.StructureForm.{IsStructure};
 ghost use Rattle.tv_model.specs.Form.{form_of, FExists};
 ghost use Rattle.tv_model.specs.Valid.{IsFormulaOver};
-ghost use Rattle.tv_struct.specs.StructureForm.{structure_of, arities_of};
+ghost use Rattle.tv_structure_form.specs.StructureForm.{structure_of, arities_of};
 ghost use Rattle.tv_eval_laws.specs.Value.{value};
-ghost use Rattle.tv_eval.specs.Along.{IsWordAlong, values_along};
+ghost use Rattle.tv_eval.specs.Along.{IsWordAlong, IsWordOf, closed_values, values_along};
 ghost use Rattle.tv_eval.specs.AssignmentForm.{assignment_of};
-ghost use Rattle.tv_eval.specs.Bound.{IsBound, bound_structure, bound_room};
+ghost use Rattle.tv_eval.specs.Bound.{bound_structure, bound_room};
+ghost use Rattle.tv_eval.specs.EvaluatorForm.{with_one_back, with_one_out};
 ghost use Rattle.tv_eval.specs.Formulas.{AreAssigned};
+ghost use Rattle.tv_eval.specs.HoldsClosure.{HoldsClosure};
 ghost use Rattle.tv_eval.specs.ScratchForm.{HasScratchFor};
 ghost use Rattle.tv_eval.specs.Sound.{CoversValues};
 
 use crate::Assignment;
 use crate::kept::Kept;
 use crate::scratch::Scratch;
-use crate::values::{row_of, value_of, word_of};
+use std::marker::Model;
 use tv_kleene::K3;
 use tv_model::{Formula, Var};
-use tv_quantifiers::Relation;
+use tv_quantifiers::{Edges, Part, Relation};
 use tv_row::{Row, Word};
 use tv_struct::Structure;
 
@@ -28,18 +33,36 @@ use tv_struct::Structure;
 /// It borrows the structure, so that this can't change meanwhile, and has the room of a scratch until it
 /// gives it back.
 #[derive(Drop)]
-pub struct Evaluator<'a> {
-    structure: &'a Structure,
+pub struct Evaluator<'s, 'a> {
+    structure: &'s Structure,
     kept: Kept<'a>,
     rooms: Vec<Relation>,
     shared: Vec<Relation>,
     size: u32,
 }
 
-impl<'a> Evaluator<'a> {
+impl<'s, 'a> Model for Evaluator<'s, 'a> {
+    ghost use Rattle.std.specs.Prelude.{◌≡◌, ◌-◌, All, length};
+    ghost use Rattle.std.specs.Vec.{vec_len, vec_capacity};
+    ghost use Rattle.tv_eval.specs.EvaluatorForm.{EvaluatorForm};
+    ghost use Rattle.tv_eval.specs.Formulas.{sizes_of};
+    ghost use Rattle.tv_eval.specs.Keeps.{HoldsClosures};
+
+    ghost Value = { EvaluatorForm };
+
+    ghost view = { λ e. record {
+      structure = e.structure.now;
+      room = record { levels = length e.rooms.items; size = e.size };
+      spare = vec_capacity e.rooms - vec_len e.rooms;
+    } };
+
+    ghost invariant = { λ e. HoldsClosures e.structure.now e.kept e.shared.items
+        × All (λ room. room ≡ e.size) (sizes_of e.rooms.items) };
+}
+
+impl<'s, 'a> Evaluator<'s, 'a> {
     /// An evaluator in the structure, with the scratch's room. Takes no memory.
-    pub fn new(s: &'a Structure, scratch: &mut Scratch) -> Evaluator<'a>
-        ensures bound { IsBound result }
+    pub fn new(s: &'s Structure, scratch: &mut Scratch) -> Evaluator<'s, 'a>
         ensures structure { bound_structure result ≡ s.now }
         ensures room { bound_room result ≡ scratch.old }
     {
@@ -55,7 +78,6 @@ impl<'a> Evaluator<'a> {
 
     /// Gives the room back.
     pub fn finish(self, scratch: &mut Scratch)
-        requires { IsBound self }
         ensures { scratch.new ≡ bound_room self.entry }
     {
         scratch.give(self.rooms, self.shared, self.size);
@@ -65,7 +87,6 @@ impl<'a> Evaluator<'a> {
     /// structure that embeds in this one; so `Yes` means true in every heap that embeds, and `No` means
     /// false. Takes no memory.
     pub fn value(&mut self, f: &'a Formula, a: &Assignment) -> K3
-        requires bound { IsBound self.old }
         requires formula { IsFormulaOver (arities_of (bound_structure self.old)) (form_of f.now) }
         requires assigned { AreAssigned (bound_structure self.old).size a.now (form_of f.now) }
         requires fits { HasScratchFor (bound_room self.old) (form_of f.now) (bound_structure self.old).size }
@@ -73,50 +94,29 @@ impl<'a> Evaluator<'a> {
             (form_of f.now) }
         ensures covers { CoversValues (form_of f.now) (structure_of (bound_structure self.old))
             (assignment_of a.now) result }
-        ensures bound { IsBound self.new }
-        ensures structure { bound_structure self.new ≡ bound_structure self.old }
-        ensures room { bound_room self.new ≡ bound_room self.old }
+        ensures same { self.new ≡ self.old }
     {
-        value_of(
-            f,
-            self.structure,
-            a,
-            self.rooms.as_mut_slice(),
-            &mut self.kept,
-            self.shared.as_mut_slice(),
-        )
+        self.value_of(f, a)
     }
 
     /// The values of the formula for all individuals, put for the variable in turn, whatever it stood for.
     /// Each is exactly the value under that assignment. Takes no memory.
     pub fn row(&mut self, f: &'a Formula, v: Var, a: &Assignment) -> Row
-        requires bound { IsBound self.old }
         requires formula { IsFormulaOver (arities_of (bound_structure self.old))
             (FExists v.0 (form_of f.now)) }
         requires assigned { AreAssigned (bound_structure self.old).size a.now (FExists v.0 (form_of f.now)) }
         requires fits { HasScratchFor (bound_room self.old) (form_of f.now) (bound_structure self.old).size }
         ensures exact { result
             ≡ values_along (bound_structure self.old) (assignment_of a.now) v.0 (form_of f.now) }
-        ensures bound { IsBound self.new }
-        ensures structure { bound_structure self.new ≡ bound_structure self.old }
-        ensures room { bound_room self.new ≡ bound_room self.old }
+        ensures same { self.new ≡ self.old }
     {
-        row_of(
-            f,
-            v,
-            self.structure,
-            a,
-            self.rooms.as_mut_slice(),
-            &mut self.kept,
-            self.shared.as_mut_slice(),
-        )
+        self.row_of(f, v, a)
     }
 
     /// The values of the formula for the individuals from `64 * chunk` on, 64 or as many as there are, put
     /// for the variable in turn, whatever it stood for. Each is exactly the value under that assignment; what
     /// stands behind the last isn't told. Takes no memory.
     pub fn word(&mut self, f: &'a Formula, v: Var, chunk: u32, a: &Assignment) -> Word
-        requires bound { IsBound self.old }
         requires formula { IsFormulaOver (arities_of (bound_structure self.old))
             (FExists v.0 (form_of f.now)) }
         requires assigned { AreAssigned (bound_structure self.old).size a.now (FExists v.0 (form_of f.now)) }
@@ -124,20 +124,98 @@ impl<'a> Evaluator<'a> {
         requires chunk { 64 * chunk < (bound_structure self.old).size }
         ensures exact { IsWordAlong (bound_structure self.old) (assignment_of a.now) v.0 chunk
             (form_of f.now) result }
-        ensures bound { IsBound self.new }
-        ensures structure { bound_structure self.new ≡ bound_structure self.old }
-        ensures room { bound_room self.new ≡ bound_room self.old }
+        ensures same { self.new ≡ self.old }
     {
-        word_of(
-            f,
-            v,
-            chunk,
-            self.structure,
-            a,
-            self.rooms.as_mut_slice(),
-            &mut self.kept,
-            self.shared.as_mut_slice(),
-        )
+        self.word_of(f, v, chunk, a)
+    }
+
+    /// The structure that it evaluates in.
+    #[inline(always)]
+    pub(crate) fn structure(&self) -> &'s Structure
+        ensures { result.now ≡ self.now.structure }
+    {
+        self.structure
+    }
+
+    /// The number of the structure's individuals.
+    #[inline(always)]
+    pub(crate) fn size(&self) -> u32
+        ensures size { result ≡ self.now.structure.size }
+        ensures kept { IsStructure self.now.structure }
+    {
+        self.structure.size()
+    }
+
+    /// A part of the closed edges, if they are kept.
+    pub(crate) fn kept_part(&mut self, part: Part, chunk: u32, edges: Edges<'a>) -> Option<Word>
+        requires part { IsPart self.old.structure.size part }
+        requires chunk { 64 * chunk < self.old.structure.size }
+        ensures exact { (a : Assigned) → IfSome result (IsWordOf self.old.structure.size chunk
+            (part_at part (closed_values self.old.structure a
+            edges.entry.left.0 edges.entry.right.0 (form_of edges.entry.body.now)))) }
+        ensures same { self.new ≡ self.old }
+    {
+        let size = self.structure.size();
+        let closed = self.kept.find(edges, self.shared.as_slice())?;
+        Some(closed.part(part, chunk, size))
+    }
+
+    /// Keeps the closed edges where there is a place for them.
+    pub(crate) fn offer(&mut self, edges: Edges<'a>, a: &Assignment, closed: &mut Relation)
+        requires body { IsFormulaOver (arities_of self.old.structure) (form_of edges.body.now) }
+        requires closed { HoldsClosure self.old.structure (assignment_of a.now)
+            edges.left.0 edges.right.0 (form_of edges.body.now) closed.old }
+        ensures size { length closed.new ≡ length closed.old }
+        ensures same { self.new ≡ self.old }
+    {
+        self.kept.offer(edges, closed, self.shared.as_mut_slice());
+    }
+
+    /// The value of the quantified formula under the assignment, if it is kept.
+    #[inline(always)]
+    pub(crate) fn kept_value(&mut self, f: &Formula, a: &Assignment) -> Option<K3>
+        ensures value { IfSome result (λ k. k
+            ≡ value (structure_of self.old.structure) (assignment_of a.now) (form_of f.now)) }
+        ensures same { self.new ≡ self.old }
+    {
+        self.kept.value(f, a)
+    }
+
+    /// Counts a quantified formula that is asked for.
+    #[inline(always)]
+    pub(crate) fn turn(&mut self) -> usize
+        ensures { self.new ≡ self.old }
+    {
+        self.kept.turn()
+    }
+
+    /// Keeps the value of the formula under the assignment, where many quantified formulas were asked for
+    /// since then and at most one variable is free in it.
+    #[inline(always)]
+    pub(crate) fn offer_value(&mut self, f: &'a Formula, since: usize, a: &Assignment, k: K3)
+        requires formula { IsFormulaOver (arities_of self.old.structure) (form_of f.now) }
+        requires value { k ≡ value (structure_of self.old.structure) (assignment_of a.now) (form_of f.now) }
+        ensures { self.new ≡ self.old }
+    {
+        self.kept.offer_value(f, since, a, k);
+    }
+
+    /// Takes a room out.
+    pub(crate) fn take_room(&mut self) -> Relation
+        requires { 0 < self.old.room.levels }
+        ensures size { length result ≡ self.old.room.size }
+        ensures taken { self.new ≡ with_one_out self.old }
+    {
+        self.rooms.pop().unwrap()
+    }
+
+    /// Puts a room back that was taken out.
+    pub(crate) fn give_room(&mut self, room: Relation)
+        requires size { length room ≡ self.old.room.size }
+        requires spare { 0 < self.old.spare }
+        ensures { self.new ≡ with_one_back self.old }
+    {
+        self.rooms.push_reserved(room);
     }
 }
 

@@ -9,7 +9,7 @@ ghost use Rattle.tv_model.specs.Form.{form_of, FAtom, IsFree};
 ghost use Rattle.tv_model.specs.Truth.{Assignment};
 ghost use Rattle.tv_eval_laws.specs.Value.{value};
 ghost use Rattle.tv_eval.specs.AssignmentForm.{assignment_of};
-ghost use Rattle.tv_struct.specs.StructureForm.{StructureForm, structure_of, arities_of};
+ghost use Rattle.tv_structure_form.specs.StructureForm.{StructureForm, structure_of, arities_of};
 ghost use Rattle.tv_model.specs.Valid.{IsFormulaOver};
 ghost use Rattle.tv_eval.specs.HoldsClosure.{HoldsClosure};
 ghost use Rattle.tv_eval.specs.Keeps.{HoldsClosures, StandsAt, HasOnlyOwn, HasPlace};

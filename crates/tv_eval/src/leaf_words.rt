@@ -5,7 +5,7 @@ ghost use Rattle.std.specs.Prelude.{length};
 ghost use Rattle.tv_kleene.specs.declared.K3.TheVariants.{No};
 ghost use Rattle.tv_model.specs.Form.{form_of, vars_of, FAtom, FExists, FIsNew, FNot, FSame};
 ghost use Rattle.tv_model.specs.Valid.{IsFormulaOver};
-ghost use Rattle.tv_struct.specs.StructureForm.{arities_of, structure_of, value_at};
+ghost use Rattle.tv_structure_form.specs.StructureForm.{arities_of, structure_of, value_at};
 ghost use Rattle.tv_struct.specs.StructureRows.{HasArity};
 ghost use Rattle.tv_row.specs.Places.{entry_in};
 ghost use Rattle.tv_quantifiers.specs.Rows.{IsSquare};

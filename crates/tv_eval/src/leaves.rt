@@ -2,7 +2,7 @@
 
 ghost use Rattle.std.specs.Prelude.{◌≡◌, ◌<◌, [], map};
 ghost use Rattle.tv_model.specs.Form.{vars_of, FAtom};
-ghost use Rattle.tv_struct.specs.StructureForm.{structure_of, value_at};
+ghost use Rattle.tv_structure_form.specs.StructureForm.{structure_of, value_at};
 ghost use Rattle.tv_eval_laws.specs.Value.{mark_value, same_value};
 ghost use Rattle.tv_eval.specs.AssignmentForm.{assignment_of};
 ghost use Rattle.tv_eval.specs.CanEvaluate.{CanEvaluate};

@@ -10,7 +10,7 @@ abbrev pub each : {A S : Type 0} → (A → S → Result S ExpandError) → List
 each step [] s = Ok s
 each step (x ∷ xs) s = step x s >>= each step xs
 
--- want of memory, of which the definition says nothing
+-- lack of memory, of which the definition says nothing
 abbrev pub is_memory : ExpandError → Bool
 is_memory Memory = true
 is_memory e = false

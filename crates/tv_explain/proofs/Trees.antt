@@ -1,68 +1,46 @@
 -- Programs with their heads, and texts that have no tree, as files that mean nothing.
-use Rattle.std.proofs.Common.{◌≡◌, ℕ, Bool, true, false, List, Option, Ok, sym, ap, subst}
+use Rattle.std.proofs.Common.{ℕ, Bool, true, false, List, Option, sym, ap, subst}
 use Rattle.std.specs.List.{AllZip}
 use Rattle.std.specs.declared.alloc.Global.{Global}
 use Rattle.std.specs.declared.vec.Vec.{Vec}
 use Rattle.tv_edge_heads.specs.Heads.{AreHeads}
-use Rattle.tv_edge_laws.specs.Edges.{EdgesAreKept, IsEdgeOf}
-use Rattle.tv_expand.specs.Expansion.{expansion}
-use Rattle.tv_flat.specs.FlatForm.{FlatForm}
-use Rattle.tv_front.proofs.Stages.{tree_read}
-use Rattle.tv_lex.specs.Parts.{AreParts}
-use Rattle.tv_lex.specs.Pieces.{Reads}
-use Rattle.tv_lex.specs.Token.{spec_tokens}
+use Rattle.tv_explain.specs.Edges.{EdgesAreKept, IsEdgeOf}
+use Rattle.tv_front.specs.Trees.{IsUnderstood}
+use Rattle.tv_front.specs.declared.understood.Understood.{Understood}
+use Rattle.tv_lex.specs.Parts.{IsMadeOf}
+use Rattle.tv_lex.specs.Traced.{Traced}
 use Rattle.tv_lex.specs.declared.gatherer.Gathered.{Gathered}
-use Rattle.tv_lex.specs.declared.gatherer.GatherError.TheVariants as gathering
 use Rattle.tv_model.specs.Program.{ProgramForm, program_of}
 use Rattle.tv_model.specs.declared.program.Edge.{Edge}
-use Rattle.tv_parse.specs.Grammar.{IsProgram}
-use Rattle.tv_parse.specs.Height.{IsTooDeep}
 use Rattle.tv_outside.specs.Told.{Held}
-use Rattle.tv_status.specs.declared.status.FileKind.TheVariants as kind
-use Rattle.tv_status.specs.declared.status.Role.TheVariants as role
 use Rattle.tv_tree.specs.Copies.{program_of as tree_of}
-use Rattle.tv_vocab.specs.Resolution.{program as resolution}
 use Rattle.tv_explain.specs.Meaning.{IsDrawnFile, IsDrawnText}
-use Rattle.tv_explain.specs.Work.{IsDrawnWhereParted, IsTakenFrom, IsUnderstood}
+use Rattle.tv_explain.specs.Work.{IsDrawnWhereParted, IsTakenFrom}
 use Rattle.tv_explain.specs.declared.inputs.Drawn.{Drawn}
-use Rattle.tv_explain.specs.declared.inputs.Understood.{Understood}
 
--- a text, its tree, and the program that comes of it
-pub understood : EdgesAreKept → (text : List ℕ) (u : Understood) (flat : FlatForm)
-    → Reads text (Ok u.tokens.list.items) → (¬ IsTooDeep (spec_tokens text u.tokens.list.items))
-    → IsProgram (spec_tokens text u.tokens.list.items) (tree_of u.tree) → expansion (tree_of u.tree) ≡ Ok flat
-    → resolution flat ≡ Ok (program_of u.program) → IsUnderstood text u
-understood kept text u flat reads low grammar expands resolves =
-    let has = tree_read text u.tokens.list.items (tree_of u.tree) reads low grammar in
-    record {
-      means = (flat, (tree_of u.tree, has, expands), resolves);
-      reads = reads;
-      grammar = grammar;
-      has = has;
-      edges = kept (tree_of u.tree) flat (program_of u.program) expands resolves;
-    }
-
--- and its heads
-pub drawn : (gathered : Gathered) (u : Understood) (heads : Vec (List ℕ) Global)
+-- the program that a text means, with its heads
+pub drawn : EdgesAreKept → (gathered : Gathered) (u : Understood) (heads : Vec (List ℕ) Global)
     → IsUnderstood gathered.bytes.items u
-    → ((told : Option Held) → AreParts told 0 gathered.parts.items gathered.bytes.items
-    → AreHeads told gathered.bytes.items (tree_of u.tree) heads.items)
+    → ((traced : List Traced) → IsMadeOf traced gathered
+    → AreHeads traced gathered.bytes.items (tree_of u.tree) heads.items)
     → IsDrawnWhereParted gathered (record { program = u.program; heads = heads })
-drawn gathered u heads is stand = λ told parted. record {
-  means = is.means;
+drawn kept gathered u heads is stand = λ told name parted. record {
+  means = (is.flat, (tree_of u.tree, is.has, is.expands), is.resolves);
   tree = tree_of u.tree;
   has = is.has;
-  edges = is.edges;
-  heads = stand told parted;
+  edges = kept (tree_of u.tree) is.flat (program_of u.program) is.expands is.resolves;
+  traced = parted.0;
+  come = parted.1;
+  heads = stand parted.0 parted.2;
 }
 
 -- ---- what differencing makes of a program
 
 -- its edges and nodes stay
-taken_text : (told : Option Held) (delta : Bool) (text : List ℕ) (read drawn : Drawn) → IsTakenFrom delta read drawn
-    → IsDrawnText told false text read → IsDrawnText told delta text drawn
-taken_text told false text read drawn same is = subst (IsDrawnText told false text) (sym same) is
-taken_text told true text read drawn (differs, heads) is = record {
+taken_text : (told : Option Held) (name : List ℕ) (delta : Bool) (text : List ℕ) (read drawn : Drawn)
+    → IsTakenFrom delta read drawn → IsDrawnText told name false text read → IsDrawnText told name delta text drawn
+taken_text told name false text read drawn same is = subst (IsDrawnText told name false text) (sym same) is
+taken_text told name true text read drawn (differs, heads) is = record {
   means = (read.program, is.means, differs);
   tree = is.tree;
   has = is.has;
@@ -70,10 +48,12 @@ taken_text told true text read drawn (differs, heads) is = record {
       (sym (ap (λ (p : ProgramForm). p.edges) differs.rest))
       (subst (λ (ns : List (List ℕ)). AllZip (IsEdgeOf ns) is.tree.edges read.program.edges)
       (sym (ap (λ (p : ProgramForm). p.nodes) differs.rest)) is.edges);
-  heads = subst (λ (hs : Vec (List ℕ) Global). AreHeads told text is.tree hs.items) (sym heads) is.heads;
+  traced = is.traced;
+  come = is.come;
+  heads = subst (λ (hs : Vec (List ℕ) Global). AreHeads is.traced text is.tree hs.items) (sym heads) is.heads;
 }
 
 pub taken_file : (told : Option Held) (delta : Bool) (name : List ℕ) (read drawn : Drawn)
     → IsDrawnFile told false name read → IsTakenFrom delta read drawn → IsDrawnFile told delta name drawn
 taken_file told delta name read drawn (text, gathers, is) taken =
-    (text, gathers, taken_text told delta text read drawn taken is)
+    (text, gathers, taken_text told name delta text read drawn taken is)

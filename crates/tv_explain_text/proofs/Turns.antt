@@ -4,7 +4,7 @@ use Rattle.std.specs.Prelude.{slice_get}
 use Rattle.tv_lemmas.proofs.Lists.{drop_there}
 use Rattle.tv_listing.specs.ListingForm.{at_node}
 use Rattle.tv_model.specs.declared.program.Vocab.{Vocab}
-use Rattle.tv_struct.specs.StructureForm.{StructureForm}
+use Rattle.tv_structure_form.specs.StructureForm.{StructureForm}
 use Rattle.tv_explain_text.specs.Texts.{node_lines, nodes_text, structure_line, structure_lines}
 
 pub structure_turn : (vocab : Vocab) (ss : List StructureForm) (i : ℕ) (s : StructureForm) (out new total : List ℕ)

@@ -76,7 +76,7 @@ fn append_edge(
 /// messages of its action, each in a line: `  message 0 "null dereference of x"`.
 ///
 /// # Errors
-/// Want of memory.
+/// Lack of memory.
 pub fn edges_text(alloc: Global, program: &Program, heads: &[Bytes]) -> Result<Vec<u8>, AllocError>
     ensures { IfOk result (λ text. text.items ≡ edges_text (program_of program.now) 0 heads.now) }
 {

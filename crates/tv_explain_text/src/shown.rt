@@ -5,7 +5,7 @@ ghost use Rattle.tv_listing.specs.Listed.{IsListing};
 ghost use Rattle.tv_listing.specs.ListingForm.{at_node};
 ghost use Rattle.tv_model.specs.Program.{program_of};
 ghost use Rattle.tv_model.specs.Valid.{IsValid};
-ghost use Rattle.tv_struct.specs.StructureForm.{IsOver};
+ghost use Rattle.tv_structure_form.specs.StructureForm.{IsOver};
 ghost use Rattle.tv_explain_text.specs.Texts.{structure_line, structure_lines, node_line, node_lines};
 ghost use Rattle.tv_explain_text.specs.Texts.{nodes_text, shown_text};
 
@@ -87,7 +87,7 @@ fn append_node(
 /// structures: `node L1 structures 2`.
 ///
 /// # Errors
-/// Want of memory.
+/// Lack of memory.
 pub fn shown_text(
     alloc: Global,
     program: &Program,

@@ -3,7 +3,7 @@
 ghost use Rattle.std.specs.Prelude.{◌≡◌, ◌≤◌, ◌++◌, All, IfOk, OnOk, codes, length};
 ghost use Rattle.tv_model.specs.Program.{program_of};
 ghost use Rattle.tv_model.specs.Valid.{IsValid};
-ghost use Rattle.tv_struct.specs.StructureForm.{IsOver};
+ghost use Rattle.tv_structure_form.specs.StructureForm.{IsOver};
 ghost use Rattle.tv_edge_heads.specs.Heads.{head_at};
 ghost use Rattle.tv_explain_text.specs.Texts.{numbered_edge};
 ghost use Rattle.tv_explain_text.specs.Trails.{is_text, link_line, link_lines, opening_line};
@@ -144,7 +144,7 @@ fn append_raised(out: &mut Vec<u8>, heads: &[Bytes], told: &Told<'_>) -> Result<
 /// each link in one line `edge NUMBER`, the edge's head, and the structure that comes of it.
 ///
 /// # Errors
-/// Want of memory.
+/// Lack of memory.
 pub fn trail_text(
     alloc: Global,
     program: &Program,
@@ -166,7 +166,7 @@ pub fn trail_text(
 /// `message NUMBER is VALUE: "TEXT"`.
 ///
 /// # Errors
-/// Want of memory.
+/// Lack of memory.
 pub fn raised_text(
     alloc: Global,
     program: &Program,

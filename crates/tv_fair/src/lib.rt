@@ -14,7 +14,7 @@ use tv_concrete::{HeapList, Tuple, Values, is_fair_through};
 use tv_model::{Action, Items, Mode, Program, Var};
 
 /// Whether the action takes the old heap to the new one by the picked individuals in a fair step, through
-/// some middle heap. The error is want of memory, or that every `u32` is taken already where an action
+/// some middle heap. The error is lack of memory, or that every `u32` is taken already where an action
 /// needs a further individual.
 pub fn fairly_steps(
     alloc: Global,

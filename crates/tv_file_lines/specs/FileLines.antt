@@ -1,17 +1,14 @@
--- In which line of which file a place of a gathered text stands.
-use Rattle.std.specs.Prelude.{◌≡◌, ℕ, ◌+◌, ◌<◌, List, ◌++◌, ◌&&◌, Bool, nat_le, nat_lt, Option, length, drop}
+-- In which line of which file a byte of a gathered text stands.
+use Rattle.std.specs.Prelude.{◌≡◌, ℕ, List, ◌++◌, ◌&&◌, Bool, Some, nat_le, nat_lt, slice_get}
 use Rattle.std.specs.Prelude.{codes}
-use Rattle.tv_lex.specs.Parts.{line_feeds}
+use Rattle.tv_lex.specs.Traced.{Traced, InLine}
 use Rattle.tv_lex.specs.declared.gatherer.Part.{Part}
-use Rattle.tv_outside.specs.Told.{Held, IsContent}
 use Rattle.tv_file_lines.specs.Numbered.{numbered}
 
--- What the text has from the place on, one byte at least, the named file has in the line of this number, from
--- 1, and on.
-abbrev pub StandsInFile : Option Held → (text : List ℕ) → (place : ℕ) → (name : List ℕ) → (line : ℕ) → Type 0
-StandsInFile told text place name line = (bytes rest before behind : List ℕ)
-    × (drop place text ≡ bytes ++ rest) × (0 < length bytes)
-    × IsContent told name (before ++ (bytes ++ behind)) × (line ≡ line_feeds before + 1)
+-- the byte at this place of the text is one of the line of this number of the named file
+abbrev pub StandsInFile : List Traced → (place : ℕ) → (name : List ℕ) → (line : ℕ) → Type 0
+StandsInFile traced place name line =
+    (byte : ℕ) × (slice_get traced place ≡ Some (InLine name line byte))
 
 abbrev pub is_in : (place : ℕ) → Part → Bool
 is_in place part = nat_le part.start place && nat_lt place part.end

@@ -1,9 +1,9 @@
 //! The lines of files in which places of a gathered text stand.
 
-ghost use Rattle.std.specs.Prelude.{◌≡◌, ◌+◌, ◌<◌, ◌≤◌, ◌++◌, Option, IfNone, IfSome, OnOk, find, length};
-ghost use Rattle.std.specs.Prelude.{drop, slice_index};
-ghost use Rattle.tv_outside.specs.Told.{Held};
-ghost use Rattle.tv_lex.specs.Parts.{AreParts};
+ghost use Rattle.std.specs.Prelude.{◌≡◌, ◌+◌, ◌<◌, ◌≤◌, ◌++◌, List, Some, IfNone, IfSome, OnOk, find, length};
+ghost use Rattle.std.specs.Prelude.{drop, slice_get};
+ghost use Rattle.tv_lex.specs.Parts.{IsMadeOf};
+ghost use Rattle.tv_lex.specs.Traced.{Added, Traced};
 ghost use Rattle.tv_file_lines.specs.Counts.{IsPartAt};
 ghost use Rattle.tv_file_lines.specs.FileLines.{StandsInFile, file_line_text, is_in};
 
@@ -85,15 +85,13 @@ impl<'a> FileLines<'a> {
     }
 
     /// The line of a file in which the byte at a place of the text stands; none for a place behind the text,
-    /// and for a line feed that stands there for an include line. Places are counted from 0.
+    /// and for the line feed behind what an include line gives. Places are counted from 0.
     pub fn line_at(&mut self, place: usize) -> Option<FileLine<'a>>
         ensures same { self.new ≡ self.old }
-        ensures found { IfSome result (λ l. (told : Option Held)
-            → AreParts told 0 self.old.parts.items self.old.bytes.items
-            → StandsInFile told self.old.bytes.items place l.name.now l.line) }
-        ensures none { IfNone result ((told : Option Held)
-            → AreParts told 0 self.old.parts.items self.old.bytes.items
-            → place < length self.old.bytes.items → slice_index self.old.bytes.items place ≡ 10) }
+        ensures found { IfSome result (λ l. (traced : List Traced) → IsMadeOf traced self.old
+            → StandsInFile traced place l.name.now l.line) }
+        ensures none { IfNone result ((traced : List Traced) → IsMadeOf traced self.old
+            → place < length self.old.bytes.items → slice_get traced place ≡ Some Added) }
     {
         let gathered = self.gathered;
         let Some(number) = part_at(&gathered.parts, self.part, place) else {
@@ -115,7 +113,7 @@ impl<'a> FileLines<'a> {
 /// Appends a line of a file as `NAME:LINE`.
 ///
 /// # Errors
-/// Want of memory.
+/// Lack of memory.
 pub fn append_file_line(out: &mut Vec<u8>, at: &FileLine) -> Result<(), AllocError>
     ensures { OnOk result (out.new.items ≡ out.old.items ++ file_line_text at.now.name.now at.now.line) }
 {

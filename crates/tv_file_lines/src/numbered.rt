@@ -9,7 +9,7 @@ use std::alloc::AllocError;
 /// Appends a word and a number.
 ///
 /// # Errors
-/// Want of memory.
+/// Lack of memory.
 pub fn append_numbered(out: &mut Vec<u8>, word: &[u8], n: usize) -> Result<(), AllocError>
     ensures { OnOk result (out.new.items ≡ out.old.items ++ numbered word.now n) }
 {

@@ -98,7 +98,8 @@ pub fn bind<'p, 'a>(
 ) -> Result<Scope<'p, 'a>, AllocError>
     ensures { IfOk result (λ inner. binding_of inner ≡ bound (binding_of binding.now) word.now by.now) }
 {
-    let mut vars = binding.vars.as_slice().to_vec(alloc)?;
+    let mut vars = Vec::with_capacity(alloc, binding.vars.len() + 1)?;
+    vars.extend_from_slice(binding.vars.as_slice())?;
     vars.push(Bound { word, by })?;
     Ok(Scope {
         params: binding.params,

@@ -6,7 +6,7 @@ use Rattle.std.specs.List.{flat_map, range_with_len}
 use Rattle.std.proofs.lemmas.List.{length-map}
 use Rattle.std.proofs.lemmas.List.Elements.{All-head, All-tail}
 use Rattle.tv_kleene.specs.declared.K3.{K3}
-use Rattle.tv_struct.specs.StructureForm.{StructureForm, structure_of}
+use Rattle.tv_structure_form.specs.StructureForm.{StructureForm, structure_of}
 use Rattle.tv_focus_laws.specs.Choices.{AimForm, Alone, Before, Behind, ChoiceForm, VectorSet, MemberForm}
 use Rattle.tv_focus_laws.specs.Choices.{members, members_of, member_at, copy_of}
 use Rattle.tv_focus_laws.specs.Written.{WriteForm, vector_writes, copy_writes, all_writes}

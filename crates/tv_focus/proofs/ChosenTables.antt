@@ -4,7 +4,7 @@ use Rattle.std.specs.List.{flat_map, AllByRecursion}
 use Rattle.std.proofs.lemmas.List.{append_assoc, map-append}
 use Rattle.tv_model.proofs.Lists.{Contains-here, Contains-there, Contains-map, Contains-flat_map, map-compose}
 use Rattle.tv_model.proofs.Lists.{map-agreed}
-use Rattle.tv_struct.specs.StructureForm.{StructureForm}
+use Rattle.tv_structure_form.specs.StructureForm.{StructureForm}
 use Rattle.tv_focus_laws.specs.Choices.{ChoiceForm, VectorSet, product}
 use Rattle.tv_focus.specs.Puts.{AreChosen, chosen_tables}
 

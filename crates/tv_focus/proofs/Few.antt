@@ -1,7 +1,7 @@
 -- Where there are few choices, no summary has many values Half.
 use Rattle.std.proofs.Common.{ℕ, ◌≡◌, ◌<◌, ◌≤◌, true, arith}
-use Rattle.tv_struct.specs.StructureForm.{StructureForm, structure_of, summary_at}
-use Rattle.tv_struct.proofs.Library.{Contains-range}
+use Rattle.tv_structure_form.specs.StructureForm.{StructureForm, structure_of, summary_at}
+use Rattle.tv_structure_form.proofs.Library.{Contains-range}
 use Rattle.tv_focus_laws.specs.Choices.{AimForm}
 use Rattle.tv_focus_laws.specs.Counts.{AreCounted, halves_at, few_choices, choice_count}
 use Rattle.tv_focus_laws.proofs.Counts.{choices_are_counted, few_choices_have_few_halves}

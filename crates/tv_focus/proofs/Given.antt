@@ -5,8 +5,8 @@ use Rattle.std.specs.List.{range_with_len, list_any}
 use Rattle.std.proofs.lemmas.Bool.{cond_both}
 use Rattle.std.proofs.lemmas.List.Elements.{All-head, All-tail, All-nil, Contains-get_or}
 use Rattle.tv_embedding_laws.specs.LogicalStructure.{LogicalStructure}
-use Rattle.tv_struct.specs.StructureForm.{StructureForm, structure_of}
-use Rattle.tv_struct.proofs.Library.{below-range}
+use Rattle.tv_structure_form.specs.StructureForm.{StructureForm, structure_of}
+use Rattle.tv_structure_form.proofs.Library.{below-range}
 use Rattle.tv_kleene.specs.Kleene.{is_yes}
 use Rattle.tv_focus_laws.specs.FocusAtoms.{AtomForm, AnchorsForm, is_anchored, anchors_of, and_given}
 use Rattle.tv_focus_laws.specs.FocusAtoms.{by_unary, by_binary, ordinary}

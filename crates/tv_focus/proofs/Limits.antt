@@ -12,15 +12,16 @@ use Rattle.tv_model.specs.Form.{Form, FZero, FOne, FAtom, FIsNew, FSame, FNot, F
 use Rattle.tv_model.specs.Form.{FExists, FForall, FClosure}
 use Rattle.tv_model.specs.Valid.{IsFormulaOver}
 use Rattle.tv_embedding_laws.specs.LogicalStructure.{LogicalStructure}
-use Rattle.tv_struct.specs.StructureForm.{StructureForm, IsStructure, arities_of, structure_of, value_at}
+use Rattle.tv_structure_form.specs.StructureForm.{StructureForm, IsStructure, arities_of, structure_of}
+use Rattle.tv_structure_form.specs.StructureForm.{value_at}
 use Rattle.tv_struct.specs.declared.analysis.StageError.{StageError}
 use Rattle.tv_struct.specs.declared.analysis.StageError.TheVariants.{Splits, Individuals, Memory}
-use Rattle.tv_struct.proofs.Library.{below-range}
+use Rattle.tv_structure_form.proofs.Library.{below-range}
 use Rattle.tv_focus_laws.specs.FocusAtoms.{AtomForm, focus_atoms, anchors_in}
 use Rattle.tv_focus_laws.specs.Choices.{AimForm, Alone, Before, Behind, SplitForm, Nothing, Whole, Each}
 use Rattle.tv_focus_laws.specs.Choices.{ChoiceForm, MemberForm, members, members_of, definite, choices}
 use Rattle.tv_focus_laws.specs.Choices.{chosen}
-use Rattle.tv_focus_laws.specs.Counts.{AreCounted, choice_count, copy_count, few_choices}
+use Rattle.tv_focus_laws.specs.Counts.{AreCounted, choice_count, largest_size, few_choices}
 use Rattle.tv_focus_laws.specs.Laws.{AreSplitAnchors}
 use Rattle.tv_focus_laws.specs.Stages.{with_whole, split_structures, atom_at, split_at, stage, no_atom}
 use Rattle.tv_focus_laws.specs.Tables.{AreStage}
@@ -55,7 +56,7 @@ members-count (u ∷ us) (set ∷ choice) same =
     )
 
 pub choice-is : (s : StructureForm) (pred : ℕ) (aim : AimForm) (choice : ChoiceForm)
-    → copy_count (structure_of s) pred aim ≤ 256 → Contains (choices (structure_of s) pred aim) choice
+    → largest_size (structure_of s) pred aim ≤ 256 → Contains (choices (structure_of s) pred aim) choice
     → IsChoiceOf s pred aim choice
 choice-is s pred aim choice small at =
     let counted : AreCounted (structure_of s) pred aim = choices_are_counted (structure_of s) pred aim
@@ -79,14 +80,14 @@ too_many s pred aim many =
     in omega (arith, counted.limited, many)
 
 pub limits_kept : (s : StructureForm) (pred : ℕ) (aim : AimForm) → few_choices (structure_of s) pred aim ≤ 4096
-    → copy_count (structure_of s) pred aim ≤ 256 → AreLimitsKept s pred aim
+    → largest_size (structure_of s) pred aim ≤ 256 → AreLimitsKept s pred aim
 limits_kept s pred aim few small =
     let counted : AreCounted (structure_of s) pred aim = choices_are_counted (structure_of s) pred aim
     in record { few = omega (arith, counted.limited, few); small = small }
 
 pub too_large : (s : StructureForm) (pred : ℕ) (aim : AimForm) → few_choices (structure_of s) pred aim ≤ 4096
-    → 256 < copy_count (structure_of s) pred aim
-    → (choice_count (structure_of s) pred aim ≤ 4096) × (256 < copy_count (structure_of s) pred aim)
+    → 256 < largest_size (structure_of s) pred aim
+    → (choice_count (structure_of s) pred aim ≤ 4096) × (256 < largest_size (structure_of s) pred aim)
 too_large s pred aim few large =
     let counted : AreCounted (structure_of s) pred aim = choices_are_counted (structure_of s) pred aim
     in (omega (arith, counted.limited, few), large)
@@ -156,7 +157,7 @@ split-few s pred (Each aim) is kept =
 
 -- ---- causes
 
-any-chosen : (s : LogicalStructure) (pred : ℕ) (aim : AimForm) → 256 < copy_count s pred aim
+any-chosen : (s : LogicalStructure) (pred : ℕ) (aim : AimForm) → 256 < largest_size s pred aim
     → Any (λ t. 256 < length t.individuals) (map (chosen s pred aim) (choices s pred aim))
 any-chosen s pred aim large =
     let counted : AreCounted s pred aim = choices_are_counted s pred aim

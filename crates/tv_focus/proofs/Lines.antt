@@ -13,7 +13,7 @@ use Rattle.tv_kleene.specs.declared.K3.TheVariants.{No, Half, Yes}
 use Rattle.tv_kleene.specs.Kleene.{larger_of, negation_of, smaller_of, is_yes}
 use Rattle.tv_row.specs.Bits.{paired}
 use Rattle.tv_row.proofs.WordOps.{length-paired, get_or-paired}
-use Rattle.tv_struct.specs.StructureForm.{StructureForm, structure_of, summary_at, value_at}
+use Rattle.tv_structure_form.specs.StructureForm.{StructureForm, structure_of, summary_at, value_at}
 use Rattle.tv_struct.specs.StructureRows.{unary_row}
 use Rattle.tv_struct.proofs.Library.{length-unary_row}
 use Rattle.tv_focus_laws.specs.Counts.{halves}

@@ -7,9 +7,10 @@ use Rattle.std.proofs.lemmas.List.{length-map, get_or-map}
 use Rattle.std.proofs.lemmas.List.FromFn.{length-range_with_len, get_or-range_with_len}
 use Rattle.std.proofs.lemmas.List.Elements.{All-map}
 use Rattle.std.proofs.lemmas.List.Sums.{sum_by_more, sum_by-take-le}
-use Rattle.tv_struct.specs.StructureForm.{StructureForm, IsStructure, IsMark, arities_of, structure_of}
-use Rattle.tv_struct.specs.StructureForm.{summary_at, split}
-use Rattle.tv_struct.proofs.OriginLaws.{copies_count}
+use Rattle.tv_structure_form.specs.StructureForm.{StructureForm, IsStructure, IsMark, arities_of}
+use Rattle.tv_structure_form.specs.StructureForm.{structure_of}
+use Rattle.tv_structure_form.specs.StructureForm.{summary_at, split}
+use Rattle.tv_structure_form.proofs.OriginLaws.{copies_count}
 use Rattle.tv_focus_laws.specs.Choices.{AimForm, Alone, Before, Behind, ChoiceForm}
 use Rattle.tv_focus_laws.specs.Tables.{parts_of}
 use Rattle.tv_focus_laws.proofs.Splits.{IsWhole, choice-whole}

@@ -11,11 +11,12 @@ use Rattle.tv_kleene.specs.declared.K3.{K3}
 use Rattle.tv_kleene.specs.declared.K3.TheVariants.{No, Half, Yes}
 use Rattle.tv_model.proofs.Lists.{map-compose, map-agreed, Contains-here}
 use Rattle.tv_embedding_laws.specs.LogicalStructure.{LogicalStructure}
-use Rattle.tv_struct.specs.TableForm.{AreIndividuals}
+use Rattle.tv_structure_form.specs.TableForm.{AreIndividuals}
 use Rattle.tv_model.specs.Form.{Form}
-use Rattle.tv_struct.specs.StructureForm.{StructureForm, IsStructure, IsMark, arities_of, structure_of}
-use Rattle.tv_struct.specs.StructureForm.{value_at, summary_at}
-use Rattle.tv_struct.proofs.Library.{below-range}
+use Rattle.tv_structure_form.specs.StructureForm.{StructureForm, IsStructure, IsMark, arities_of}
+use Rattle.tv_structure_form.specs.StructureForm.{structure_of}
+use Rattle.tv_structure_form.specs.StructureForm.{value_at, summary_at}
+use Rattle.tv_structure_form.proofs.Library.{below-range}
 use Rattle.tv_focus_laws.specs.Choices.{AimForm, Alone, Before, Behind, SplitForm, Nothing, Whole, Each}
 use Rattle.tv_focus_laws.specs.Choices.{VectorSet, ChoiceForm, MemberForm, aimed, definite, vectors, picks}
 use Rattle.tv_focus_laws.specs.Choices.{picks_to, sets_of, product, choices, members, member_at, nobody}

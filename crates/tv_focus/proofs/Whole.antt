@@ -6,8 +6,8 @@ use Rattle.std.specs.List.{AllByRecursion, range_with_len}
 use Rattle.std.specs.Option.{option_map}
 use Rattle.std.proofs.lemmas.List.Sums.{sum_by-cons}
 use Rattle.std.proofs.lemmas.List.FromFn.{length-range_with_len}
-use Rattle.tv_struct.specs.TableForm.{plane_drawn, selected}
-use Rattle.tv_struct.specs.StructureForm.{StructureForm, IsMark, IsStructure, copies_from, split}
+use Rattle.tv_structure_form.specs.TableForm.{plane_drawn, selected}
+use Rattle.tv_structure_form.specs.StructureForm.{StructureForm, IsMark, IsStructure, copies_from, split}
 use Rattle.tv_struct.proofs.WholeDraws.{all-selected, planes-themselves}
 
 -- each individual stands once

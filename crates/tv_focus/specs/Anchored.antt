@@ -8,7 +8,7 @@ use Rattle.tv_embedding_laws.specs.LogicalStructure.{LogicalStructure}
 use Rattle.tv_model.specs.Form.{Form}
 use Rattle.tv_focus_laws.specs.FocusAtoms.{AtomForm, AnchorsForm, focus_atoms, by_unary}
 use Rattle.tv_focus_laws.specs.Choices.{AimForm, Alone, Before, Behind, SplitForm, Nothing, Whole, Each}
-use Rattle.tv_struct.specs.StructureForm.{StructureForm, arities_of, value_at}
+use Rattle.tv_structure_form.specs.StructureForm.{StructureForm, arities_of, value_at}
 use Rattle.tv_focus.specs.declared.anchors.Place.{Place}
 use Rattle.tv_focus.specs.declared.anchors.Place.TheVariants.{First, Second}
 

@@ -1,8 +1,8 @@
 -- What a stage of focus made of a structure.
 use Rattle.std.specs.Prelude.{ℕ, ◌≡◌, ◌≤◌, List, [], ◌∷◌, map}
-use Rattle.tv_struct.specs.StructureForm.{StructureForm, structure_of}
+use Rattle.tv_structure_form.specs.StructureForm.{StructureForm, structure_of}
 use Rattle.tv_focus_laws.specs.Choices.{SplitForm, Nothing, Whole, Each, choices, sets_in}
-use Rattle.tv_focus_laws.specs.Counts.{copy_count}
+use Rattle.tv_focus_laws.specs.Counts.{largest_size}
 use Rattle.tv_focus_laws.specs.Written.{chosen_table}
 use Rattle.tv_focus_step_laws.specs.Above.{IsAim}
 use Rattle.tv_focus.specs.Anchored.{IsAimOver}
@@ -21,7 +21,7 @@ pub record IsChoosing (s : StructureForm) (c : Choosing) : Type 0 where
   pub aim : IsAim s c.pred.0 (aim_of c.aim)
   pub over : IsAimOver s c.pred.0 (aim_of c.aim)
   pub sets : c.sets.items ≡ sets_in (structure_of s) c.pred.0 (aim_of c.aim)
-  pub small : copy_count (structure_of s) c.pred.0 (aim_of c.aim) ≤ 256
+  pub small : largest_size (structure_of s) c.pred.0 (aim_of c.aim) ≤ 256
 
 -- the structure that was focused
 abbrev pub focused_from : Focused → StructureForm

@@ -3,7 +3,7 @@ use Rattle.std.specs.Prelude.{ℕ, ◌≡◌, ◌≢◌, List, [], ◌∷◌, Co
 use Rattle.tv_kleene.specs.declared.K3.TheVariants.{Half}
 use Rattle.tv_model.specs.Form.{Form}
 use Rattle.tv_embedding_laws.specs.LogicalStructure.{LogicalStructure}
-use Rattle.tv_struct.specs.StructureForm.{StructureForm, IsStructure, structure_of}
+use Rattle.tv_structure_form.specs.StructureForm.{StructureForm, IsStructure, structure_of}
 use Rattle.tv_focus_laws.specs.Choices.{SplitForm, Nothing, Whole, Each}
 use Rattle.tv_focus_laws.specs.Counts.{halves_at}
 use Rattle.tv_focus_laws.specs.Stages.{atom_at, split_at}

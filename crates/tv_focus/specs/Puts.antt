@@ -2,7 +2,7 @@
 use Rattle.std.specs.Prelude.{ℕ, ◌+◌, ◌<◌, ◌≤◌, List, [], ◌∷◌, ◌++◌, length, map, take, sum, All, Contains}
 use Rattle.tv_kleene.specs.declared.K3.{K3}
 use Rattle.std.specs.List.{flat_map, AllByRecursion}
-use Rattle.tv_struct.specs.StructureForm.{StructureForm, structure_of}
+use Rattle.tv_structure_form.specs.StructureForm.{StructureForm, structure_of}
 use Rattle.tv_focus_laws.specs.Choices.{AimForm, Alone, Before, Behind, ChoiceForm, VectorSet, choices}
 use Rattle.tv_focus_laws.specs.Choices.{definite}
 use Rattle.tv_focus_laws.specs.Tables.{parts_of}

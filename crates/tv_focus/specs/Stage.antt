@@ -3,11 +3,11 @@ use Rattle.std.specs.Prelude.{ℕ, ◌≡◌, ◌<◌, ◌≤◌, List, length, 
 use Rattle.tv_model.specs.Form.{Form}
 use Rattle.tv_model.specs.Heap.{Heap}
 use Rattle.tv_embedding_laws.specs.Embedding.{IsHeapOf}
-use Rattle.tv_struct.specs.StructureForm.{StructureForm, structure_of}
+use Rattle.tv_structure_form.specs.StructureForm.{StructureForm, structure_of}
 use Rattle.tv_struct.specs.declared.analysis.StageError.{StageError}
 use Rattle.tv_struct.specs.declared.analysis.StageError.TheVariants.{Splits, Individuals, Memory}
 use Rattle.tv_focus_laws.specs.Choices.{AimForm, SplitForm, Nothing, Whole, Each}
-use Rattle.tv_focus_laws.specs.Counts.{choice_count, copy_count}
+use Rattle.tv_focus_laws.specs.Counts.{choice_count, largest_size}
 use Rattle.tv_focus_laws.specs.Stages.{stage}
 
 -- there are at most 4,096 choices, and none has over 256 individuals
@@ -30,12 +30,12 @@ KeepsHeaps s ts = (h : Heap) → IsHeapOf h (structure_of s) → Any (λ t. IsHe
 -- the same limits and causes, by the numbers of an aim
 pub record AreLimitsKept (s : StructureForm) (pred : ℕ) (aim : AimForm) : Type 0 where
   pub few : choice_count (structure_of s) pred aim ≤ 4096
-  pub small : copy_count (structure_of s) pred aim ≤ 256
+  pub small : largest_size (structure_of s) pred aim ≤ 256
 
 abbrev pub IsEachCause : StructureForm → (pred : ℕ) → AimForm → StageError → Type 0
 IsEachCause s pred aim Splits = 4096 < choice_count (structure_of s) pred aim
 IsEachCause s pred aim Individuals =
-    (choice_count (structure_of s) pred aim ≤ 4096) × (256 < copy_count (structure_of s) pred aim)
+    (choice_count (structure_of s) pred aim ≤ 4096) × (256 < largest_size (structure_of s) pred aim)
 IsEachCause s pred aim Memory = Unit {0}
 
 abbrev pub AreSplitLimitsKept : StructureForm → (pred : ℕ) → SplitForm → Type 0
@@ -43,7 +43,7 @@ AreSplitLimitsKept s pred Nothing = Unit {0}
 AreSplitLimitsKept s pred Whole = Unit {0}
 AreSplitLimitsKept s pred (Each aim) = AreLimitsKept s pred aim
 
--- want of memory, or the cause of an aim
+-- lack of memory, or the cause of an aim
 abbrev pub IsSplitCause : StructureForm → (pred : ℕ) → SplitForm → StageError → Type 0
 IsSplitCause s pred Nothing fault = fault ≡ Memory
 IsSplitCause s pred Whole fault = fault ≡ Memory

@@ -2,7 +2,7 @@
 
 ghost use Rattle.std.specs.Prelude.{◌≡◌, All, map, IfOk};
 ghost use Rattle.tv_model.specs.Form.{vars_of};
-ghost use Rattle.tv_struct.specs.StructureForm.{arities_of, structure_of};
+ghost use Rattle.tv_structure_form.specs.StructureForm.{arities_of, structure_of};
 ghost use Rattle.tv_focus_laws.specs.Choices.{split_of, split_by};
 ghost use Rattle.tv_focus_laws.specs.FocusAtoms.{anchors_in};
 ghost use Rattle.tv_focus.specs.Anchored.{IsAtomOver};

@@ -6,7 +6,7 @@ ghost use Rattle.std.specs.List.{range_with_len, list_any};
 ghost use Rattle.tv_kleene.specs.declared.K3.TheVariants.{No};
 ghost use Rattle.tv_kleene.specs.Kleene.{is_yes};
 ghost use Rattle.tv_model.specs.Form.{vars_of};
-ghost use Rattle.tv_struct.specs.StructureForm.{arities_of, structure_of, value_at};
+ghost use Rattle.tv_structure_form.specs.StructureForm.{arities_of, structure_of, value_at};
 ghost use Rattle.tv_struct.specs.TupleForm.{tuple_of};
 ghost use Rattle.tv_focus_laws.specs.FocusAtoms.{ordinary, is_anchored, anchors_of, by_unary};
 ghost use Rattle.tv_focus_laws.specs.FocusAtoms.{by_binary, anchors_in};

@@ -87,7 +87,7 @@ impl<'a> Model for FocusAtoms<'a> {
 }
 
 impl<'a> FocusAtoms<'a> {
-    /// The formula with its atoms. The only error is want of memory.
+    /// The formula with its atoms. The only error is lack of memory.
     pub fn new(alloc: Global, formula: &'a Formula) -> Result<FocusAtoms<'a>, AllocError>
         ensures { IfOk result (λ atoms. atoms ≡ formula.now) }
     {

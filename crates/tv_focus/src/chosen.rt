@@ -3,7 +3,7 @@
 ghost use Rattle.std.specs.Prelude.{◌≡◌, ◌<◌, ◌≤◌, ◌+◌, ◌++◌, [], ◌∷◌, length, map, take, sum, Some, All};
 ghost use Rattle.std.specs.Prelude.{Contains, IfOk, IfSome, IsTrue, OnOk, slice_get, slice_index};
 ghost use Rattle.std.specs.List.{flat_map, AllByRecursion};
-ghost use Rattle.tv_struct.specs.StructureForm.{IsStructure, arities_of, split, structure_of};
+ghost use Rattle.tv_structure_form.specs.StructureForm.{IsStructure, arities_of, split, structure_of};
 ghost use Rattle.tv_focus_laws.specs.Written.{chosen_table};
 ghost use Rattle.tv_focus_laws.specs.Tables.{parts_of};
 ghost use Rattle.tv_focus.specs.Anchored.{IsAimOver};
@@ -150,7 +150,7 @@ pub fn choose(
     }
 }
 
-/// The same, for those that go on with one of `first` and one of each of `rest`.
+/// Puts the structures of the choices that go on with one of `first` and one of each of `rest`.
 #[cycle(choose)]
 #[tactic(auto, using(crate::proofs::ChosenTables::one_more))]
 fn choose_one(
@@ -182,7 +182,7 @@ fn choose_one(
     }
 }
 
-/// The same, for those that go on with this set and one of each of `rest`.
+/// Puts the structures of the choices that go on with this set and one of each of `rest`.
 #[cycle(choose)]
 fn choose_with(
     alloc: Global,

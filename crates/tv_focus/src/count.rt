@@ -4,12 +4,12 @@ ghost use Rattle.std.specs.Prelude.{◌≡◌, ◌<◌, ◌≤◌, ◌^◌, min,
 ghost use Rattle.std.specs.Prelude.{[], ◌∷◌};
 ghost use Rattle.std.specs.List.{range_with_len};
 ghost use Rattle.tv_kleene.specs.declared.K3.{K3};
-ghost use Rattle.tv_struct.specs.StructureForm.{arities_of, structure_of, value_at, summary_at};
-ghost use Rattle.tv_struct.specs.TableForm.{HasEntry};
-ghost use Rattle.tv_struct.specs.StructureForm.{table_of};
+ghost use Rattle.tv_structure_form.specs.StructureForm.{arities_of, structure_of, value_at, summary_at};
+ghost use Rattle.tv_structure_form.specs.TableForm.{HasEntry};
+ghost use Rattle.tv_structure_form.specs.StructureForm.{table_of};
 ghost use Rattle.tv_struct.specs.TupleForm.{tuple_of};
 ghost use Rattle.tv_focus_laws.specs.Counts.{halves, halves_at, few_sets, few_choices, vector_count};
-ghost use Rattle.tv_focus_laws.specs.Counts.{copy_count};
+ghost use Rattle.tv_focus_laws.specs.Counts.{largest_size};
 ghost use Rattle.tv_focus.specs.Anchored.{pair_of, IsAimOver};
 ghost use Rattle.tv_focus.specs.Seen.{aim_of};
 
@@ -111,10 +111,10 @@ fn vector_count(summary: bool, half: usize) -> u32
 
 /// The number of individuals of the largest choice, where there aren't too many choices.
 #[tactic(auto, using(crate::proofs::Folds::fold_range_more))]
-pub fn copy_count(s: &Structure, p: PredId, aim: &Aim) -> u32
+pub fn largest_size(s: &Structure, p: PredId, aim: &Aim) -> u32
     requires aim { IsAimOver s.now p.0 (aim_of aim.now) }
     requires few { few_choices (structure_of s.now) p.0 (aim_of aim.now) ≤ 4096 }
-    ensures { result ≡ copy_count (structure_of s.now) p.0 (aim_of aim.now) }
+    ensures { result ≡ largest_size (structure_of s.now) p.0 (aim_of aim.now) }
 {
     let mut total = 0u32;
     for u in 0..s.size() {

@@ -3,7 +3,7 @@
 ghost use Rattle.std.specs.Prelude.{◌≡◌, ◌≢◌, ◌<◌, ℕ, All, IsTrue, Some, length, map, slice_get};
 ghost use Rattle.std.specs.Prelude.{slice_index_or};
 ghost use Rattle.tv_kleene.specs.declared.K3.TheVariants.{No, Half};
-ghost use Rattle.tv_struct.specs.StructureForm.{arities_of, structure_of, value_at};
+ghost use Rattle.tv_structure_form.specs.StructureForm.{arities_of, structure_of, value_at};
 ghost use Rattle.tv_focus_laws.specs.Counts.{halves, halves_at};
 ghost use Rattle.tv_focus.specs.Anchored.{IsAimOver, IsSplitOver, pair_of};
 ghost use Rattle.tv_focus.specs.Laws.{IsSharp};

@@ -1,7 +1,7 @@
 //! Vectors put into a split structure.
 
 ghost use Rattle.std.specs.Prelude.{◌≡◌, ◌<◌, ◌≤◌, ◌+◌, ◌++◌, [], ◌∷◌, length, Some, All, slice_get};
-ghost use Rattle.tv_struct.specs.StructureForm.{StructureForm, arities_of};
+ghost use Rattle.tv_structure_form.specs.StructureForm.{StructureForm, arities_of};
 ghost use Rattle.tv_focus_laws.specs.Written.{written, vector_writes};
 ghost use Rattle.tv_focus.specs.Anchored.{pair_of, IsAimOver};
 ghost use Rattle.tv_focus_step_laws.specs.Above.{writes_at};

@@ -3,7 +3,8 @@
 ghost use Rattle.std.specs.Prelude.{◌≡◌, ◌<◌, ◌≤◌, ◌++◌, [], length, map, All, IfOk, IfErr, IfNone, IfSome};
 ghost use Rattle.std.specs.Prelude.{IsTrue, OnOk, Some, slice_get, ◌∷◌};
 ghost use Rattle.tv_model.specs.Form.{form_of};
-ghost use Rattle.tv_struct.specs.StructureForm.{IsOver, arities_of, structure_of, value_at, with_value};
+ghost use Rattle.tv_structure_form.specs.StructureForm.{IsOver, arities_of, structure_of, value_at};
+ghost use Rattle.tv_structure_form.specs.StructureForm.{with_value};
 ghost use Rattle.tv_focus_laws.specs.FocusAtoms.{focus_atoms};
 ghost use Rattle.tv_focus_laws.specs.Choices.{aimed, choices, definite, sets_in};
 ghost use Rattle.tv_focus_laws.specs.Stages.{atom_at, split_at};
@@ -20,7 +21,7 @@ use crate::aim::{Aim, Split, split_of};
 use crate::anchors::{Place, pair};
 use crate::atoms::FocusAtoms;
 use crate::chosen::choose;
-use crate::count::{MAX_CHOICES, copy_count, few_choices};
+use crate::count::{MAX_CHOICES, few_choices, largest_size};
 use crate::focused::{Choosing, Focused};
 use crate::known::is_sharp;
 use crate::sets::{Sets, sets_of};
@@ -176,7 +177,7 @@ fn each(alloc: Global, s: &Structure, p: PredId, aim: &Aim) -> Result<Structures
     if few_choices(s, p, aim) > MAX_CHOICES {
         return Err(StageError::Splits);
     }
-    if copy_count(s, p, aim) > MAX_INDIVIDUALS {
+    if largest_size(s, p, aim) > MAX_INDIVIDUALS {
         return Err(StageError::Individuals);
     }
     Ok(all_chosen(alloc, s, p, aim)?)
@@ -270,7 +271,7 @@ fn staged(
 }
 
 /// Whether the atom's values are known in the structure, so that its stage leaves the structure as it is. The
-/// only error is want of memory.
+/// only error is lack of memory.
 pub fn is_known(
     alloc: Global,
     f: &FocusAtoms<'_>,
@@ -335,7 +336,7 @@ fn each_focused(alloc: Global, p: PredId, aim: Aim, s: Structure) -> Result<Focu
     if count > MAX_CHOICES {
         return Err(StageError::Splits);
     }
-    if copy_count(&s, p, &aim) > MAX_INDIVIDUALS {
+    if largest_size(&s, p, &aim) > MAX_INDIVIDUALS {
         return Err(StageError::Individuals);
     }
     if count <= FEW_CHOICES {

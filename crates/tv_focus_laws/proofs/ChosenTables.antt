@@ -18,15 +18,16 @@ use Rattle.tv_kleene.specs.declared.K3.TheVariants.{No}
 use Rattle.tv_embedding_laws.specs.LogicalStructure.{LogicalStructure}
 use Rattle.tv_model.proofs.Lists.{Contains-here, Contains-there, Contains-none, Contains-cases}
 use Rattle.tv_model.proofs.Decided.{Contains-decided}
-use Rattle.tv_struct.specs.TableForm.{AreIndividuals, HasEntry, IsTable}
-use Rattle.tv_struct.specs.StructureForm.{StructureForm, IsStructure, IsMark, split, drawn, copies_from}
-use Rattle.tv_struct.specs.StructureForm.{table_of, value_at, summary_at, structure_of, arities_of}
-use Rattle.tv_struct.specs.Laws.{origins_of, DrawnReads}
-use Rattle.tv_struct.proofs.StructureLaws.{drawn_reads}
-use Rattle.tv_struct.proofs.TableLaws.{IsTable-drawn}
-use Rattle.tv_struct.proofs.DrawnLaws.{IsMark-split}
-use Rattle.tv_struct.proofs.OriginLaws.{get_or-copies_from}
-use Rattle.tv_struct.proofs.Library.{below-range}
+use Rattle.tv_structure_form.specs.TableForm.{AreIndividuals, HasEntry, IsTable}
+use Rattle.tv_structure_form.specs.StructureForm.{StructureForm, IsStructure, IsMark, split, drawn}
+use Rattle.tv_structure_form.specs.StructureForm.{copies_from}
+use Rattle.tv_structure_form.specs.StructureForm.{table_of, value_at, summary_at, structure_of, arities_of}
+use Rattle.tv_structure_form.specs.Laws.{origins_of, DrawnReads}
+use Rattle.tv_structure_form.proofs.StructureLaws.{drawn_reads}
+use Rattle.tv_structure_form.proofs.TableLaws.{IsTable-drawn}
+use Rattle.tv_structure_form.proofs.DrawnLaws.{IsMark-split}
+use Rattle.tv_structure_form.proofs.OriginLaws.{get_or-copies_from}
+use Rattle.tv_structure_form.proofs.Library.{below-range}
 use Rattle.tv_focus_laws.specs.Choices.{AimForm, Alone, Before, Behind, MemberForm, members, member_at}
 use Rattle.tv_focus_laws.specs.Choices.{nobody, copy_of, with_anchor, focused_value, aimed, vectors, sets_of}
 use Rattle.tv_focus_laws.specs.Choices.{choices, chosen}

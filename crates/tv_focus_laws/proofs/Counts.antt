@@ -18,7 +18,7 @@ use Rattle.tv_model.proofs.Lists.{Contains-here, Contains-there, Contains-none, 
 use Rattle.tv_focus_laws.specs.Choices.{AimForm, aimed, definite, vectors, picks, picks_to, sets_of, product}
 use Rattle.tv_focus_laws.specs.Choices.{sets_in, choices, members, members_of}
 use Rattle.tv_focus_laws.specs.Counts.{halves, halves_at, set_count, multiplied, set_counts, choice_count}
-use Rattle.tv_focus_laws.specs.Counts.{vector_count, copy_count, few_sets, few_choices, HasChoiceOf}
+use Rattle.tv_focus_laws.specs.Counts.{vector_count, largest_size, few_sets, few_choices, HasChoiceOf}
 use Rattle.tv_focus_laws.specs.Counts.{AreCounted, HasFewHalves, FewChoicesHaveFewHalves, ChoicesAreCounted}
 use Rattle.tv_focus_laws.proofs.Membership.{ComesFrom, Contains-from_map}
 use Rattle.tv_focus_laws.proofs.Listed.{product-has, picks_to-has}
@@ -334,7 +334,7 @@ members-count set count each (u ∷ us) =
     let rest : length (members us (map set us)) ≡ sum (map count us) = members-count set count each us
     in omega (arith, members-cons u us (set u) (map set us), sum-cons (count u) (map count us), each u)
 
-largest-reached : (s : LogicalStructure) (pred : ℕ) (aim : AimForm) → HasChoiceOf s pred aim (copy_count s pred aim)
+largest-reached : (s : LogicalStructure) (pred : ℕ) (aim : AimForm) → HasChoiceOf s pred aim (largest_size s pred aim)
 largest-reached s pred aim =
     let ks : ℕ → List K3 = λ u. map (s.value pred) (aimed aim u)
     in let set : ℕ → List (List K3) = λ u. largest_set (s.is_summary u) (ks u)

@@ -12,7 +12,7 @@ use Rattle.tv_model.specs.Heap.{Heap}
 use Rattle.tv_model.proofs.Lists.{map-compose}
 use Rattle.tv_embedding_laws.specs.LogicalStructure.{LogicalStructure, heap_structure}
 use Rattle.tv_embedding_laws.specs.Embedding.{Embeds}
-use Rattle.tv_struct.proofs.Library.{below-range}
+use Rattle.tv_structure_form.proofs.Library.{below-range}
 use Rattle.tv_focus_laws.specs.Choices.{AimForm, Alone, Before, Behind, aimed, MemberForm, nobody, member_at}
 use Rattle.tv_focus_laws.specs.Choices.{with_anchor, focused_value, chosen_over}
 

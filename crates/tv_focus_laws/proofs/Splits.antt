@@ -15,11 +15,12 @@ use Rattle.tv_kleene.specs.declared.K3.{K3}
 use Rattle.tv_kleene.specs.declared.K3.TheVariants.{No, Half, Yes}
 use Rattle.tv_embedding_laws.specs.LogicalStructure.{LogicalStructure}
 use Rattle.tv_model.proofs.Lists.{Contains-none}
-use Rattle.tv_struct.specs.TableForm.{AreIndividuals, HasEntry}
-use Rattle.tv_struct.specs.StructureForm.{StructureForm, IsStructure, IsMark, split, copies_from, table_of}
-use Rattle.tv_struct.specs.StructureForm.{value_at, summary_at, structure_of, arities_of}
-use Rattle.tv_struct.specs.Laws.{origins_of, DrawnReads}
-use Rattle.tv_struct.proofs.StructureLaws.{drawn_reads}
+use Rattle.tv_structure_form.specs.TableForm.{AreIndividuals, HasEntry}
+use Rattle.tv_structure_form.specs.StructureForm.{StructureForm, IsStructure, IsMark, split, copies_from}
+use Rattle.tv_structure_form.specs.StructureForm.{table_of}
+use Rattle.tv_structure_form.specs.StructureForm.{value_at, summary_at, structure_of, arities_of}
+use Rattle.tv_structure_form.specs.Laws.{origins_of, DrawnReads}
+use Rattle.tv_structure_form.proofs.StructureLaws.{drawn_reads}
 use Rattle.tv_focus_laws.specs.Choices.{AimForm, MemberForm, members, members_of, member_at, nobody, copy_of}
 use Rattle.tv_focus_laws.specs.Choices.{aimed, vectors, picks, picks_to, sets_of, product, choices, chosen}
 use Rattle.tv_focus_laws.specs.Choices.{focused_value}

@@ -12,16 +12,16 @@ use Rattle.tv_kleene.specs.declared.K3.{K3}
 use Rattle.tv_model.proofs.Lists.{Contains-here, Contains-there}
 use Rattle.tv_model.specs.Form.{Form}
 use Rattle.tv_embedding_laws.specs.LogicalStructure.{LogicalStructure}
-use Rattle.tv_struct.specs.TableForm.{HasEntry}
-use Rattle.tv_struct.specs.StructureForm.{StructureForm, IsStructure, with_value, table_of, value_at}
-use Rattle.tv_struct.specs.StructureForm.{structure_of, arities_of}
-use Rattle.tv_struct.specs.Laws.{WritesOneEntry}
-use Rattle.tv_struct.proofs.StructureLaws.{writes_one_entry}
+use Rattle.tv_structure_form.specs.TableForm.{HasEntry}
+use Rattle.tv_structure_form.specs.StructureForm.{StructureForm, IsStructure, with_value, table_of, value_at}
+use Rattle.tv_structure_form.specs.StructureForm.{structure_of, arities_of}
+use Rattle.tv_structure_form.specs.Laws.{WritesOneEntry}
+use Rattle.tv_structure_form.proofs.StructureLaws.{writes_one_entry}
 use Rattle.tv_focus_laws.specs.FocusAtoms.{AnchorsForm, focus_atoms, anchors_in, ordinary}
 use Rattle.tv_focus_laws.specs.Choices.{AimForm, Alone, Before, Behind, SplitForm, Nothing, Whole, Each}
 use Rattle.tv_focus_laws.specs.Choices.{split_of, split_by, definite, choices, chosen, members}
 use Rattle.tv_focus_laws.specs.Stages.{with_whole, whole_value, split_structures, atom_at, split_at, stage}
-use Rattle.tv_focus_laws.specs.Counts.{copy_count, AreCounted}
+use Rattle.tv_focus_laws.specs.Counts.{largest_size, AreCounted}
 use Rattle.tv_focus_laws.specs.Laws.{AreAnchors, AreSplitAnchors}
 use Rattle.tv_focus_laws.specs.Tables.{Shows, ShowsOver, AreStage}
 use Rattle.tv_focus_laws.specs.Written.{chosen_table, places_of, AreApart, split_tables, AreSmall}

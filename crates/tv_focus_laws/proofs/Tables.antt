@@ -19,12 +19,13 @@ use Rattle.tv_embedding_laws.specs.LogicalStructure.{LogicalStructure, heap_stru
 use Rattle.tv_embedding_laws.specs.Embedding.{Embeds, IsHeapOf}
 use Rattle.tv_kleene.proofs.Thresholds.{No-below}
 use Rattle.tv_model.proofs.Lists.{Contains-none}
-use Rattle.tv_struct.specs.TableForm.{PlaneForm, AreIndividuals, HasEntry, no_plane, value_in, cell, row_of}
-use Rattle.tv_struct.specs.TableForm.{column_of}
-use Rattle.tv_struct.specs.StructureForm.{StructureForm, IsStructure, table_of, value_at, summary_at}
-use Rattle.tv_struct.specs.StructureForm.{structure_of, arities_of}
-use Rattle.tv_struct.proofs.StructureLaws.{value_in-no_plane, same_structure}
-use Rattle.tv_struct.proofs.Library.{AreIndividuals-range, below-range}
+use Rattle.tv_structure_form.specs.TableForm.{PlaneForm, AreIndividuals, HasEntry, no_plane, value_in, cell}
+use Rattle.tv_structure_form.specs.TableForm.{row_of}
+use Rattle.tv_structure_form.specs.TableForm.{column_of}
+use Rattle.tv_structure_form.specs.StructureForm.{StructureForm, IsStructure, table_of, value_at, summary_at}
+use Rattle.tv_structure_form.specs.StructureForm.{structure_of, arities_of}
+use Rattle.tv_structure_form.proofs.StructureLaws.{value_in-no_plane, same_structure}
+use Rattle.tv_structure_form.proofs.Library.{AreIndividuals-range, below-range}
 use Rattle.tv_focus_laws.specs.Stages.{stage}
 use Rattle.tv_focus_laws.specs.Tables.{Shows, ShowsOver, AreStage, StageKeepsHeaps, TablesLoseNoHeap}
 use Rattle.tv_focus_laws.proofs.Stages.{stages_lose_no_heap}

@@ -11,13 +11,13 @@ use Rattle.std.proofs.lemmas.List.Sums.{sum_by-cons}
 use Rattle.std.proofs.lemmas.List.Elements.{All-head, All-tail}
 use Rattle.tv_kleene.specs.declared.K3.{K3}
 use Rattle.tv_model.proofs.Lists.{Contains-here, Contains-there, Contains-none, Contains-cases}
-use Rattle.tv_struct.specs.TableForm.{HasEntry, AreIndividuals}
-use Rattle.tv_struct.specs.StructureForm.{StructureForm, IsStructure, IsMark, with_value, copies_from}
-use Rattle.tv_struct.specs.StructureForm.{table_of, value_at, summary_at, arities_of}
-use Rattle.tv_struct.specs.Laws.{WritesOneEntry}
-use Rattle.tv_struct.proofs.StructureLaws.{writes_one_entry}
-use Rattle.tv_struct.proofs.TableLaws.{IsTable-with_entry}
-use Rattle.tv_struct.proofs.HalfLaws.{tuples_decided}
+use Rattle.tv_structure_form.specs.TableForm.{HasEntry, AreIndividuals}
+use Rattle.tv_structure_form.specs.StructureForm.{StructureForm, IsStructure, IsMark, with_value, copies_from}
+use Rattle.tv_structure_form.specs.StructureForm.{table_of, value_at, summary_at, arities_of}
+use Rattle.tv_structure_form.specs.Laws.{WritesOneEntry}
+use Rattle.tv_structure_form.proofs.StructureLaws.{writes_one_entry}
+use Rattle.tv_structure_form.proofs.TableLaws.{IsTable-with_entry}
+use Rattle.tv_structure_form.proofs.HalfLaws.{tuples_decided}
 use Rattle.tv_focus_laws.specs.Written.{WriteForm, written}
 
 -- what two lists write, one after the other

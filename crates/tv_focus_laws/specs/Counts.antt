@@ -38,8 +38,9 @@ vector_count false half = 1
 vector_count true half = 2 ^ half
 
 -- the individuals of the largest choice
-abbrev pub copy_count : LogicalStructure → (pred : ℕ) → AimForm → ℕ
-copy_count s pred aim = sum (map (λ u. vector_count (s.is_summary u) (halves_at s pred aim u)) s.individuals)
+abbrev pub largest_size : LogicalStructure → (pred : ℕ) → AimForm → ℕ
+largest_size s pred aim =
+    sum (map (λ u. vector_count (s.is_summary u) (halves_at s pred aim u)) s.individuals)
 
 -- a product as far as a limit
 abbrev pub limited_product : (limit : ℕ) → List ℕ → ℕ
@@ -68,8 +69,8 @@ pub record AreCounted (s : LogicalStructure) (pred : ℕ) (aim : AimForm) : Type
   pub number : length (choices s pred aim) ≡ choice_count s pred aim
   pub limited : few_choices s pred aim ≡ min (choice_count s pred aim) 4097
   pub most : (choice : ChoiceForm) → Contains (choices s pred aim) choice
-      → length (members s.individuals choice) ≤ copy_count s pred aim
-  pub reached : HasChoiceOf s pred aim (copy_count s pred aim)
+      → length (members s.individuals choice) ≤ largest_size s pred aim
+  pub reached : HasChoiceOf s pred aim (largest_size s pred aim)
 
 -- where there aren't too many choices, no summary has more than 3 Half values, and no other individual more
 -- than 12

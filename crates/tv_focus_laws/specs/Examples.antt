@@ -4,12 +4,12 @@ use Rattle.std.specs.Prelude.{if◌then◌else◌}
 use Rattle.tv_kleene.specs.declared.K3.{K3}
 use Rattle.tv_kleene.specs.declared.K3.TheVariants.{No, Half, Yes}
 use Rattle.tv_model.specs.Form.{Form, FAtom, FAnd, FExists, FNot}
-use Rattle.tv_struct.specs.StructureForm.{StructureForm, structure_of}
+use Rattle.tv_structure_form.specs.StructureForm.{StructureForm, structure_of}
 use Rattle.tv_focus_laws.specs.FocusAtoms.{AnchorsForm, focus_atoms, anchors_in}
 use Rattle.tv_focus_laws.specs.Choices.{AimForm, Alone, Before, Behind, SplitForm, Nothing, Whole, Each}
 use Rattle.tv_focus_laws.specs.Choices.{MemberForm, VectorSet, choices, members, sets_of}
 use Rattle.tv_focus_laws.specs.Stages.{split_at}
-use Rattle.tv_focus_laws.specs.Counts.{choice_count, copy_count, few_choices}
+use Rattle.tv_focus_laws.specs.Counts.{choice_count, largest_size, few_choices}
 
 -- one summary, of which predicate 0 is unknown
 abbrev pub one_summary : StructureForm
@@ -107,4 +107,4 @@ pub record Examples : Type 0 where
   pub following : choices (structure_of list_table) 1 (Behind (0 ∷ []))
       ≡ (((No ∷ []) ∷ []) ∷ ((No ∷ []) ∷ []) ∷ []) ∷ (((No ∷ []) ∷ []) ∷ ((Yes ∷ []) ∷ []) ∷ [])
       ∷ (((No ∷ []) ∷ []) ∷ ((No ∷ []) ∷ (Yes ∷ []) ∷ []) ∷ []) ∷ []
-  pub most : copy_count (structure_of list_table) 1 (Behind (0 ∷ [])) ≡ 3
+  pub most : largest_size (structure_of list_table) 1 (Behind (0 ∷ [])) ≡ 3

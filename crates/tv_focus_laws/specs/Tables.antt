@@ -6,9 +6,10 @@ use Rattle.tv_model.specs.Form.{Form}
 use Rattle.tv_model.specs.Heap.{Heap}
 use Rattle.tv_embedding_laws.specs.LogicalStructure.{LogicalStructure}
 use Rattle.tv_embedding_laws.specs.Embedding.{IsHeapOf}
-use Rattle.tv_struct.specs.TableForm.{HasEntry}
-use Rattle.tv_struct.specs.StructureForm.{StructureForm, IsStructure, split, table_of, value_at, summary_at}
-use Rattle.tv_struct.specs.StructureForm.{structure_of, arities_of}
+use Rattle.tv_structure_form.specs.TableForm.{HasEntry}
+use Rattle.tv_structure_form.specs.StructureForm.{StructureForm, IsStructure, split, table_of, value_at}
+use Rattle.tv_structure_form.specs.StructureForm.{summary_at}
+use Rattle.tv_structure_form.specs.StructureForm.{structure_of, arities_of}
 use Rattle.tv_focus_laws.specs.Choices.{ChoiceForm, AimForm, MemberForm, members, focused_value, choices}
 use Rattle.tv_focus_laws.specs.Choices.{chosen}
 use Rattle.tv_focus_laws.specs.Stages.{stage}

@@ -5,11 +5,11 @@ use Rattle.std.specs.Prelude.{slice_get, slice_index_or}
 use Rattle.std.specs.List.{flat_map, range_with_len}
 use Rattle.tv_kleene.specs.declared.K3.{K3}
 use Rattle.tv_kleene.specs.declared.K3.TheVariants.{No}
-use Rattle.tv_struct.specs.StructureForm.{StructureForm, IsStructure, split, with_value, value_at}
-use Rattle.tv_struct.specs.StructureForm.{structure_of, arities_of}
+use Rattle.tv_structure_form.specs.StructureForm.{StructureForm, IsStructure, split, with_value, value_at}
+use Rattle.tv_structure_form.specs.StructureForm.{structure_of, arities_of}
 use Rattle.tv_model.specs.Form.{Form}
 use Rattle.tv_focus_laws.specs.Stages.{atom_at, split_at}
-use Rattle.tv_focus_laws.specs.Counts.{copy_count}
+use Rattle.tv_focus_laws.specs.Counts.{largest_size}
 use Rattle.tv_focus_laws.specs.Choices.{ChoiceForm, AimForm, Alone, Before, Behind, SplitForm, Nothing, Whole}
 use Rattle.tv_focus_laws.specs.Choices.{Each, definite, MemberForm, members, member_at, copy_of, choices}
 use Rattle.tv_focus_laws.specs.Choices.{chosen}
@@ -76,7 +76,7 @@ split_tables s pred (Each aim) = map (chosen_table s pred aim) (choices (structu
 abbrev pub AreSmall : StructureForm → (pred : ℕ) → SplitForm → Type 0
 AreSmall s pred Nothing = Unit {0}
 AreSmall s pred Whole = Unit {0}
-AreSmall s pred (Each aim) = copy_count (structure_of s) pred aim ≤ 256
+AreSmall s pred (Each aim) = largest_size (structure_of s) pred aim ≤ 256
 
 -- the tables of the k-th atom of the formula
 abbrev pub stage_tables : StructureForm → Form → ℕ → List StructureForm

@@ -14,9 +14,9 @@ use Rattle.tv_kleene.specs.Kleene.{LiesUnder}
 use Rattle.tv_embedding_laws.specs.Embedding.{IsBelow}
 use Rattle.tv_embedding_laws.proofs.EmbeddingLaws.{EmbedsOn-compose, IsBelow-values}
 use Rattle.tv_stable_laws.proofs.Joined.{sharpening_loses_no_stable}
-use Rattle.tv_struct.specs.StructureForm.{StructureForm, IsMark, arities_of, summary_at, structure_of}
-use Rattle.tv_struct.specs.StructureForm.{value_at}
-use Rattle.tv_struct.proofs.Library.{AreIndividuals-range, Contains-range, below-range, fits_or_No}
+use Rattle.tv_structure_form.specs.StructureForm.{StructureForm, IsMark, arities_of, summary_at, structure_of}
+use Rattle.tv_structure_form.specs.StructureForm.{value_at}
+use Rattle.tv_structure_form.proofs.Library.{AreIndividuals-range, Contains-range, below-range, fits_or_No}
 use Rattle.tv_model.proofs.Lists.{Contains-there}
 use Rattle.tv_focus_laws.specs.Choices.{ChoiceForm, AimForm, Alone, Before, Behind, MemberForm, VectorSet}
 use Rattle.tv_focus_laws.specs.Choices.{chosen, copy_of, focused_value, member_at, members, members_of}

@@ -11,9 +11,9 @@ use Rattle.tv_kleene.specs.declared.K3.TheVariants.{No}
 use Rattle.tv_kleene.specs.Kleene.{LiesUnder}
 use Rattle.tv_embedding_laws.specs.LogicalStructure.{LogicalStructure}
 use Rattle.tv_embedding_laws.specs.Embedding.{Embeds}
-use Rattle.tv_struct.specs.StructureForm.{StructureForm, value_at, summary_at, structure_of}
-use Rattle.tv_struct.specs.StructureForm.{arities_of}
-use Rattle.tv_struct.proofs.Library.{AreIndividuals-range, Contains-range, below-range, fits_or_No}
+use Rattle.tv_structure_form.specs.StructureForm.{StructureForm, value_at, summary_at, structure_of}
+use Rattle.tv_structure_form.specs.StructureForm.{arities_of}
+use Rattle.tv_structure_form.proofs.Library.{AreIndividuals-range, Contains-range, below-range, fits_or_No}
 use Rattle.tv_focus_laws.specs.Choices.{ChoiceForm, AimForm, Alone, Before, Behind, MemberForm, VectorSet}
 use Rattle.tv_focus_laws.specs.Choices.{aimed, members, member_at, nobody, copy_of, with_anchor}
 use Rattle.tv_focus_laws.specs.Choices.{focused_value}

@@ -11,7 +11,7 @@ use Rattle.std.proofs.lemmas.List.Sums.{sum_by-cons}
 use Rattle.std.proofs.lemmas.List.FromFn.{length-range_with_len}
 use Rattle.std.proofs.lemmas.List.Elements.{All-nil, All-append, All-map}
 use Rattle.tv_kleene.specs.declared.K3.{K3}
-use Rattle.tv_struct.specs.StructureForm.{StructureForm, structure_of}
+use Rattle.tv_structure_form.specs.StructureForm.{StructureForm, structure_of}
 use Rattle.tv_focus_laws.specs.Choices.{ChoiceForm, AimForm, MemberForm, VectorSet, members, members_of}
 use Rattle.tv_focus_laws.specs.Choices.{member_at}
 use Rattle.tv_focus_laws.specs.Choices.{nobody, copy_of}

@@ -19,8 +19,8 @@ use Rattle.tv_model.proofs.Lists.{Contains-none, Contains-cases, Contains-there}
 use Rattle.tv_embedding_laws.specs.LogicalStructure.{LogicalStructure}
 use Rattle.tv_embedding_laws.specs.Embedding.{Embeds, IsBelow}
 use Rattle.tv_embedding_laws.proofs.EmbeddingLaws.{IsBelow-values}
-use Rattle.tv_struct.specs.StructureForm.{StructureForm, value_at, structure_of}
-use Rattle.tv_struct.proofs.Library.{AreIndividuals-range, below-range}
+use Rattle.tv_structure_form.specs.StructureForm.{StructureForm, value_at, structure_of}
+use Rattle.tv_structure_form.proofs.Library.{AreIndividuals-range, below-range}
 use Rattle.tv_focus_laws.specs.Choices.{ChoiceForm, AimForm, Alone, Before, Behind, MemberForm, VectorSet}
 use Rattle.tv_focus_laws.specs.Choices.{members, member_at, copy_of, with_anchor, focused_value}
 use Rattle.tv_focus_laws.specs.Choices.{chosen}

@@ -11,11 +11,12 @@ use Rattle.std.proofs.lemmas.List.FromFn.{length-range_with_len, get_or-range_wi
 use Rattle.tv_model.specs.Program.{RuleForm}
 use Rattle.tv_embedding_laws.specs.LogicalStructure.{LogicalStructure}
 use Rattle.tv_embedding_laws.specs.Embedding.{IsBelow}
-use Rattle.tv_struct.specs.StructureForm.{StructureForm, IsStructure, copies_from, split, structure_of}
-use Rattle.tv_struct.specs.StructureForm.{value_at}
-use Rattle.tv_struct.specs.StructureForm.{summary_at}
-use Rattle.tv_struct.proofs.StructureLaws.{drawn_reads}
-use Rattle.tv_struct.proofs.Library.{AreIndividuals-range, Contains-range, below-range}
+use Rattle.tv_structure_form.specs.StructureForm.{StructureForm, IsStructure, copies_from, split}
+use Rattle.tv_structure_form.specs.StructureForm.{structure_of}
+use Rattle.tv_structure_form.specs.StructureForm.{value_at}
+use Rattle.tv_structure_form.specs.StructureForm.{summary_at}
+use Rattle.tv_structure_form.proofs.StructureLaws.{drawn_reads}
+use Rattle.tv_structure_form.proofs.Library.{AreIndividuals-range, Contains-range, below-range}
 use Rattle.tv_focus_laws.specs.Choices.{ChoiceForm, AimForm, VectorSet, copy_of, nobody}
 use Rattle.tv_focus_laws.specs.Written.{chosen_table}
 use Rattle.tv_focus_laws.proofs.Members.{members-inside}

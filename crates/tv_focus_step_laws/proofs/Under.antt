@@ -14,9 +14,10 @@ use Rattle.tv_kleene.specs.Kleene.{LiesUnder}
 use Rattle.tv_kleene.proofs.Lattice.{LiesUnder-trans}
 use Rattle.tv_embedding_laws.specs.Embedding.{IsBelow, IsBelowByValues}
 use Rattle.tv_embedding_laws.proofs.EmbeddingLaws.{IsBelow-values}
-use Rattle.tv_struct.specs.StructureForm.{StructureForm, IsMark, IsStructure, split, structure_of, value_at}
-use Rattle.tv_struct.specs.StructureForm.{summary_at}
-use Rattle.tv_struct.proofs.Library.{Contains-range}
+use Rattle.tv_structure_form.specs.StructureForm.{StructureForm, IsMark, IsStructure, split, structure_of}
+use Rattle.tv_structure_form.specs.StructureForm.{value_at}
+use Rattle.tv_structure_form.specs.StructureForm.{summary_at}
+use Rattle.tv_structure_form.proofs.Library.{Contains-range}
 use Rattle.tv_focus_laws.specs.Choices.{ChoiceForm, AimForm, VectorSet, focused_value}
 use Rattle.tv_focus_laws.specs.Exact.{ListsAreExact}
 use Rattle.tv_focus_laws.specs.Written.{WriteForm, written, places_of}

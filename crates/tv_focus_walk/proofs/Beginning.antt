@@ -4,7 +4,7 @@ use Rattle.std.proofs.Common.{arith, sum, All, Contains}
 use Rattle.std.proofs.lemmas.List.{take_all}
 use Rattle.std.proofs.lemmas.List.FromFn.{length-map-range_with_len}
 use Rattle.std.proofs.lemmas.List.Elements.{All-nil, All-cons}
-use Rattle.tv_struct.specs.StructureForm.{IsStructure, structure_of}
+use Rattle.tv_structure_form.specs.StructureForm.{IsStructure, structure_of}
 use Rattle.tv_eval.specs.ScratchForm.{ScratchForm}
 use Rattle.tv_rules.specs.Closing.{closed_rules}
 use Rattle.tv_focus_laws.specs.Choices.{AimForm, Alone, Before, Behind, ChoiceForm, VectorSet, choices}

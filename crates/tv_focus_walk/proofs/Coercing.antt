@@ -9,7 +9,7 @@ use Rattle.tv_embedding_laws.proofs.EmbeddingLaws.{EmbedsOn-id}
 use Rattle.tv_model.specs.Program.{RuleForm}
 use Rattle.tv_stable_laws.specs.Laws.{IsPlainRule}
 use Rattle.tv_stable_laws.specs.Stable.{IsStable, IsStableUnder, IsGreatestStable, HasNoStable}
-use Rattle.tv_struct.specs.StructureForm.{StructureForm, IsStructure, structure_of, arities_of}
+use Rattle.tv_structure_form.specs.StructureForm.{StructureForm, IsStructure, structure_of, arities_of}
 use Rattle.tv_eval.specs.ScratchForm.{ScratchForm}
 use Rattle.tv_rules.specs.Closing.{closed_rules}
 use Rattle.tv_rules.specs.EntryForms.{rules_of}

@@ -6,7 +6,7 @@ use Rattle.std.specs.List.{between}
 use Rattle.std.proofs.lemmas.Slice.{first_rest}
 use Rattle.tv_kleene.specs.declared.K3.{K3}
 use Rattle.tv_kleene.specs.declared.K3.TheVariants.{No, Half}
-use Rattle.tv_struct.specs.StructureForm.{StructureForm, value_at}
+use Rattle.tv_structure_form.specs.StructureForm.{StructureForm, value_at}
 use Rattle.tv_focus_laws.specs.Choices.{Alone}
 use Rattle.tv_focus_laws.specs.Written.{vector_writes}
 use Rattle.tv_focus_step_laws.specs.Above.{IsOther}

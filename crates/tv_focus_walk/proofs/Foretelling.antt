@@ -8,9 +8,9 @@ use Rattle.std.proofs.lemmas.List.Elements.{All-contains, All-tail, Contains-get
 use Rattle.std.proofs.lemmas.List.Sums.{sum_by-cons}
 use Rattle.tv_kleene.specs.declared.K3.{K3}
 use Rattle.tv_stable_laws.specs.Stable.{IsGreatestStable, IsStableUnder, HasNoStable}
-use Rattle.tv_struct.specs.TableForm.{HasEntry}
-use Rattle.tv_struct.specs.StructureForm.{StructureForm, IsStructure, split, structure_of, summary_at}
-use Rattle.tv_struct.specs.StructureForm.{table_of}
+use Rattle.tv_structure_form.specs.TableForm.{HasEntry}
+use Rattle.tv_structure_form.specs.StructureForm.{StructureForm, IsStructure, split, structure_of, summary_at}
+use Rattle.tv_structure_form.specs.StructureForm.{table_of}
 use Rattle.tv_eval.specs.ScratchForm.{ScratchForm}
 use Rattle.tv_rules.specs.Closing.{closed_rules}
 use Rattle.tv_rules.specs.EntryForms.{rules_of}

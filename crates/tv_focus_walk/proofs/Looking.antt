@@ -7,7 +7,8 @@ use Rattle.std.proofs.lemmas.Bool.{false≢true}
 use Rattle.std.proofs.lemmas.Result.{IfOk-weaker}
 use Rattle.tv_kleene.specs.declared.K3.{K3}
 use Rattle.tv_model.specs.Program.{RuleForm}
-use Rattle.tv_struct.specs.StructureForm.{StructureForm, IsMark, IsStructure, arities_of, split, summary_at}
+use Rattle.tv_structure_form.specs.StructureForm.{StructureForm, IsMark, IsStructure, arities_of, split}
+use Rattle.tv_structure_form.specs.StructureForm.{summary_at}
 use Rattle.tv_rules.specs.Standing.{SeesSummaries}
 use Rattle.tv_eval.specs.ScratchForm.{ScratchForm}
 use Rattle.tv_focus_laws.specs.Choices.{AimForm, ChoiceForm, VectorSet}

@@ -7,8 +7,8 @@ use Rattle.std.proofs.lemmas.Bool.{cases_Bool, cond-true, cond-false}
 use Rattle.std.proofs.lemmas.List.Elements.{All-nil, All-append, All-cons, All-head, All-tail}
 use Rattle.tv_kleene.specs.declared.K3.{K3}
 use Rattle.tv_kleene.specs.declared.K3.TheVariants.{No}
-use Rattle.tv_struct.specs.TableForm.{HasEntry}
-use Rattle.tv_struct.specs.StructureForm.{StructureForm, IsStructure, arities_of, table_of}
+use Rattle.tv_structure_form.specs.TableForm.{HasEntry}
+use Rattle.tv_structure_form.specs.StructureForm.{StructureForm, IsStructure, arities_of, table_of}
 use Rattle.tv_focus_laws.specs.Choices.{AimForm, Alone, Before, Behind, ChoiceForm, VectorSet}
 use Rattle.tv_focus_laws.specs.Written.{WriteForm, vector_writes}
 use Rattle.tv_focus.specs.Anchored.{IsAimOver}

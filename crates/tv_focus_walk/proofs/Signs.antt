@@ -16,7 +16,7 @@ use Rattle.tv_embedding_laws.specs.Embedding.{IsBelow}
 use Rattle.tv_embedding_laws.proofs.EmbeddingLaws.{IsBelow-values}
 use Rattle.tv_stable_laws.specs.Laws.{IsPlainRule}
 use Rattle.tv_stable_laws.specs.Stable.{IsStableUnder}
-use Rattle.tv_struct.specs.StructureForm.{StructureForm, structure_of, value_at}
+use Rattle.tv_structure_form.specs.StructureForm.{StructureForm, structure_of, value_at}
 use Rattle.tv_rules.specs.EntryForms.{rules_of}
 use Rattle.tv_rules.specs.Seen.{Sees}
 use Rattle.tv_coerce.specs.Touched.{HasNotMoved, IsTouched}

@@ -2,7 +2,7 @@
 
 ghost use Rattle.std.specs.Prelude.{[], ◌∷◌, ◌<◌, ◌≡◌, ◌≢◌, Some, All, Any, IsTrue, slice_get};
 ghost use Rattle.tv_kleene.specs.declared.K3.TheVariants.{Half};
-ghost use Rattle.tv_struct.specs.StructureForm.{arities_of};
+ghost use Rattle.tv_structure_form.specs.StructureForm.{arities_of};
 ghost use Rattle.tv_focus_laws.specs.Written.{vector_writes};
 ghost use Rattle.tv_focus.specs.Anchored.{IsAimOver};
 ghost use Rattle.tv_focus.specs.Seen.{aim_of};

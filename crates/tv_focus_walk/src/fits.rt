@@ -1,7 +1,7 @@
 //! Vectors that a structure may be given, and those that it has.
 
 ghost use Rattle.std.specs.Prelude.{[], ◌∷◌, ◌<◌, ◌+◌, ◌≡◌, ◌≤◌, length, Some, All, IsTrue, slice_get};
-ghost use Rattle.tv_struct.specs.StructureForm.{arities_of};
+ghost use Rattle.tv_structure_form.specs.StructureForm.{arities_of};
 ghost use Rattle.tv_focus_laws.specs.Written.{vector_writes};
 ghost use Rattle.tv_focus.specs.Anchored.{IsAimOver};
 ghost use Rattle.tv_focus.specs.Seen.{aim_of};

@@ -10,7 +10,7 @@ ghost use Rattle.tv_model.specs.Program.{HAtom};
 ghost use Rattle.tv_rules.specs.EntryForms.{rules_of};
 ghost use Rattle.tv_rules.specs.Seen.{Sees};
 ghost use Rattle.tv_rules.specs.Standing.{SeesSummaries};
-ghost use Rattle.tv_struct.specs.StructureForm.{IsStructure, arities_of};
+ghost use Rattle.tv_structure_form.specs.StructureForm.{IsStructure, arities_of};
 ghost use Rattle.tv_focus_walk.specs.Walk.{ArePlain, HasRulesSince, IsNoted, IsUnchanged, KeepsRest};
 ghost use Rattle.tv_focus_walk.specs.Walk.{walk_pred};
 

@@ -6,7 +6,7 @@ ghost use Rattle.tv_focus.specs.Puts.{set_writes};
 ghost use Rattle.tv_focus.specs.Seen.{aim_of};
 ghost use Rattle.tv_focus_laws.specs.Written.{written};
 ghost use Rattle.tv_focus_step_laws.specs.Above.{parts_at};
-ghost use Rattle.tv_struct.specs.StructureForm.{IsStructure, arities_of, split};
+ghost use Rattle.tv_structure_form.specs.StructureForm.{IsStructure, arities_of, split};
 ghost use Rattle.tv_focus_walk.specs.Walk.{ArePlain, IsSplittable, KeepsRest, shifted_aim, shifted_by};
 ghost use Rattle.tv_focus_walk.specs.Walk.{walk_pred};
 

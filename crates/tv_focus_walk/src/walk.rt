@@ -260,7 +260,7 @@ fn walk_on<'a>(
 }
 
 /// Puts the greatest stable structure below each choice behind the others, in the choices' order, and nothing
-/// for a choice below which there is none. The only error is want of memory.
+/// for a choice below which there is none. The only error is lack of memory.
 pub fn walk_choices(w: &Walk, scratch: &mut Scratch, out: &mut Structures) -> Result<(), AllocError>
     requires can { CanWalk w.now scratch.old }
     ensures out { OnOk result

@@ -50,7 +50,7 @@ pub fn flat_form<'t>(alloc: Global, bytes: &'t [u8]) -> Result<Flat<'t>, Program
 /// # Errors
 /// The first stage that refuses the text says why: its bytes make no tokens; over 200 constructs are open at
 /// one place; its tokens are no program; its tree has no flat form; its flat form has no meaning. Each of
-/// these comes exactly where it stands; only want of memory may come anywhere. The place of a syntax fault is
+/// these comes exactly where it stands; only lack of memory may come anywhere. The place of a syntax fault is
 /// that of the start of one of the tokens, or of the end of the text.
 #[tactic(auto, using(crate::proofs::Stages::resolution_refused, crate::proofs::Stages::program_given))]
 pub fn read_program(alloc: Global, bytes: &[u8]) -> Result<Program, ProgramFault>

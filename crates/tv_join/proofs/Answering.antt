@@ -18,11 +18,11 @@ use Rattle.tv_model.specs.Valid.{IsValid}
 use Rattle.tv_model.proofs.Lists.{All-from_contains}
 use Rattle.tv_listing.specs.ListingForm.{AreSorted, HasEqual, at_node}
 use Rattle.tv_listing.specs.declared.analysis.MessageLine.{MessageLine}
-use Rattle.tv_struct.specs.StructureForm.{StructureForm, IsStructure, IsOver}
+use Rattle.tv_structure_form.specs.StructureForm.{StructureForm, IsStructure, IsOver}
 use Rattle.tv_step_laws.specs.Closed.{IsClosed, IsCovered, IsOpened, IsFollowed as IsFollowedBy, CoversRuns}
 use Rattle.tv_step_laws.proofs.Runs.{closed_listings_cover_runs}
 use Rattle.tv_join.specs.Members.{MembersForm}
-use Rattle.tv_work.specs.Analysed.{IsSaid, KeepAllBudgets}
+use Rattle.tv_work.specs.Analyzed.{IsSaid, KeepAllBudgets}
 use Rattle.tv_work.specs.Reach.{Point, IsListed}
 use Rattle.tv_work.specs.Search.{IsOnce}
 use Rattle.tv_work.specs.Task.{TaskForm}

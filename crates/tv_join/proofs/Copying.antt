@@ -6,12 +6,12 @@ use Rattle.std.proofs.lemmas.Bool.{cases_eq, cases_lt}
 use Rattle.std.proofs.lemmas.List.{get_or_past}
 use Rattle.tv_kleene.specs.declared.K3.{K3}
 use Rattle.tv_kleene.specs.declared.K3.TheVariants.{No}
-use Rattle.tv_struct.specs.TableForm.{HasEntry}
-use Rattle.tv_struct.specs.StructureForm.{StructureForm, IsStructure, table_of, value_at, arities_of}
-use Rattle.tv_struct.specs.StructureForm.{with_value, structure_of_no}
+use Rattle.tv_structure_form.specs.TableForm.{HasEntry}
+use Rattle.tv_structure_form.specs.StructureForm.{StructureForm, IsStructure, table_of, value_at, arities_of}
+use Rattle.tv_structure_form.specs.StructureForm.{with_value, structure_of_no}
 use Rattle.tv_struct.specs.StructureRows.{HasArity, unary_row}
-use Rattle.tv_struct.specs.Laws.{WritesOneEntry, IsAllNo}
-use Rattle.tv_struct.proofs.StructureLaws.{writes_one_entry, new_is_no}
+use Rattle.tv_structure_form.specs.Laws.{WritesOneEntry, IsAllNo}
+use Rattle.tv_structure_form.proofs.StructureLaws.{writes_one_entry, new_is_no}
 use Rattle.tv_struct.proofs.Library.{get_or-unary_row, entry-arity}
 use Rattle.tv_blur.specs.Classes.{ChangesOnly}
 use Rattle.tv_join.specs.Keyed.{Counts, HasCopied, IsSkeleton}

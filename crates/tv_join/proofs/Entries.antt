@@ -5,10 +5,10 @@ use Rattle.std.specs.Prelude.{slice_get}
 use Rattle.std.proofs.lemmas.Bool.{cases_lt}
 use Rattle.tv_kleene.specs.declared.K3.TheVariants.{No}
 use Rattle.tv_kleene.specs.Kleene.{join_of}
-use Rattle.tv_struct.specs.TableForm.{HasEntry, AreIndividuals}
-use Rattle.tv_struct.specs.StructureForm.{StructureForm, IsStructure, table_of, value_at, arities_of}
-use Rattle.tv_struct.proofs.Library.{fits_or_No}
-use Rattle.tv_struct.proofs.StructureLaws.{value_at-past}
+use Rattle.tv_structure_form.specs.TableForm.{HasEntry, AreIndividuals}
+use Rattle.tv_structure_form.specs.StructureForm.{StructureForm, IsStructure, table_of, value_at, arities_of}
+use Rattle.tv_structure_form.proofs.Library.{fits_or_No}
+use Rattle.tv_structure_form.proofs.StructureLaws.{value_at-past}
 use Rattle.tv_join.specs.Pairwise.{HasJoinedValues}
 
 individuals_decided : (size : ℕ) (tuple : List ℕ) → AreIndividuals size tuple ⊎ (¬ AreIndividuals size tuple)

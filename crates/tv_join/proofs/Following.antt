@@ -11,7 +11,7 @@ use Rattle.tv_model.specs.declared.program.Edge.{Edge}
 use Rattle.tv_model.specs.Program.{ProgramForm}
 use Rattle.tv_model.specs.Valid.{IsValid, IsEdge}
 use Rattle.tv_model.proofs.Lists.{Contains-none, slice_get-contains, Contains-here}
-use Rattle.tv_struct.specs.StructureForm.{StructureForm}
+use Rattle.tv_structure_form.specs.StructureForm.{StructureForm}
 use Rattle.tv_struct.specs.declared.analysis.StageError.{StageError}
 use Rattle.tv_struct.specs.declared.analysis.StageError.TheVariants.{Splits as splits}
 use Rattle.tv_struct.specs.declared.analysis.StageError.TheVariants.{Individuals as individuals}
@@ -20,12 +20,12 @@ use Rattle.tv_step_laws.specs.Budgets.{IsStepCause, KeepsBudgets}
 use Rattle.tv_step_laws.specs.Settled.{IsSettled}
 use Rattle.tv_step_laws.specs.Transfer.{AreMessageValues, AreResults, IsOpening}
 use Rattle.tv_join.specs.Members.{MembersForm}
-use Rattle.tv_work.specs.Analysed.{IsAtSource}
+use Rattle.tv_work.specs.Analyzed.{IsAtSource}
 use Rattle.tv_work.specs.Leaving.{LeavesBy}
 use Rattle.tv_work.specs.Reach.{Point, IsStartPoint}
 use Rattle.tv_work.specs.Task.{TaskForm}
 use Rattle.tv_join.specs.Flags.{IsPlain}
-use Rattle.tv_work.specs.Analysed.{work_error}
+use Rattle.tv_work.specs.Analyzed.{work_error}
 use Rattle.tv_join.specs.Places.{member_place}
 use Rattle.tv_join.specs.Rounds.{point}
 use Rattle.tv_join.specs.State.{IsIn, IsAmongFound, StandsAt, members_at}

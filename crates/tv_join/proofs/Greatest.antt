@@ -12,10 +12,10 @@ use Rattle.tv_kleene.specs.Kleene.{larger_of}
 use Rattle.tv_model.specs.declared.program.Edge.{Edge}
 use Rattle.tv_model.specs.Program.{ProgramForm}
 use Rattle.tv_model.specs.Valid.{IsValid}
-use Rattle.tv_struct.specs.StructureForm.{StructureForm}
+use Rattle.tv_structure_form.specs.StructureForm.{StructureForm}
 use Rattle.tv_step_laws.specs.Transfer.{AreMessageValues}
 use Rattle.tv_join.specs.Members.{MembersForm}
-use Rattle.tv_work.specs.Analysed.{IsAtSource}
+use Rattle.tv_work.specs.Analyzed.{IsAtSource}
 use Rattle.tv_work.specs.Explored.{AreSaid}
 use Rattle.tv_work.specs.Reach.{Point}
 use Rattle.tv_work.specs.Task.{TaskForm}

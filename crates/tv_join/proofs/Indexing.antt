@@ -15,9 +15,9 @@ use Rattle.tv_kleene.specs.Kleene.{join_of}
 use Rattle.tv_kleene.proofs.Lattice.{join-same}
 use Rattle.tv_model.proofs.Lists.{slice_get-contains}
 use Rattle.tv_struct.specs.Order.{structure_cmp}
-use Rattle.tv_struct.specs.StructureForm.{StructureForm, IsStructure, value_at, unmarked}
+use Rattle.tv_structure_form.specs.StructureForm.{StructureForm, IsStructure, value_at, unmarked}
 use Rattle.tv_struct.proofs.OrderLaws.{structure_cmp-Equal, Equal-from_unmarked}
-use Rattle.tv_struct.proofs.StructureLaws.{same_structure}
+use Rattle.tv_structure_form.proofs.StructureLaws.{same_structure}
 use Rattle.tv_join.specs.Keyed.{Counts, SameKey, IsSkeleton}
 use Rattle.tv_join.specs.Pairwise.{IsJoined}
 use Rattle.tv_join.specs.Members.{MembersForm, place_in, IsIndexed, IsKnown, IsRaised}

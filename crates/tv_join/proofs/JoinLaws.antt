@@ -12,11 +12,12 @@ use Rattle.tv_model.specs.Program.{ProgramForm}
 use Rattle.tv_embedding_laws.specs.Embedding.{IsEmbedded}
 use Rattle.tv_embedding_laws.proofs.EmbeddingLaws.{IsBelow-values}
 use Rattle.std.specs.List.{range_with_len}
-use Rattle.tv_struct.specs.TableForm.{HasEntry}
-use Rattle.tv_struct.specs.StructureForm.{StructureForm, IsStructure, structure_of, table_of, arities_of}
-use Rattle.tv_struct.specs.StructureForm.{value_at, summary_at}
-use Rattle.tv_struct.proofs.DrawnLaws.{summary_at-past}
-use Rattle.tv_struct.proofs.StructureLaws.{same_structure}
+use Rattle.tv_structure_form.specs.TableForm.{HasEntry}
+use Rattle.tv_structure_form.specs.StructureForm.{StructureForm, IsStructure, structure_of, table_of}
+use Rattle.tv_structure_form.specs.StructureForm.{arities_of}
+use Rattle.tv_structure_form.specs.StructureForm.{value_at, summary_at}
+use Rattle.tv_structure_form.proofs.DrawnLaws.{summary_at-past}
+use Rattle.tv_structure_form.proofs.StructureLaws.{same_structure}
 use Rattle.tv_blur.specs.Merged.{IsJoin}
 use Rattle.tv_blur.proofs.MergedLaws.{IsJoin-one, IsJoin-same, IsJoin-like}
 use Rattle.tv_join.specs.Keyed.{SameKey}

@@ -8,15 +8,16 @@ use Rattle.tv_kleene.specs.declared.K3.TheVariants.{No}
 use Rattle.tv_kleene.specs.Kleene.{join_of}
 use Rattle.tv_row.specs.Bits.{paired}
 use Rattle.tv_row.proofs.WordOps.{get_or-paired, length-paired}
-use Rattle.tv_struct.specs.TableForm.{HasEntry, row_of}
-use Rattle.tv_struct.specs.StructureForm.{StructureForm, IsStructure, table_of, value_at, summary_at}
-use Rattle.tv_struct.specs.StructureForm.{arities_of, with_value, with_summary}
+use Rattle.tv_structure_form.specs.TableForm.{HasEntry, row_of}
+use Rattle.tv_structure_form.specs.StructureForm.{StructureForm, IsStructure, table_of, value_at, summary_at}
+use Rattle.tv_structure_form.specs.StructureForm.{arities_of, with_value, with_summary}
 use Rattle.tv_struct.specs.StructureRows.{HasArity, unary_row, row_at, with_row}
-use Rattle.tv_struct.specs.Laws.{WritesOneEntry, WritesOneSummary}
-use Rattle.tv_struct.proofs.StructureLaws.{writes_one_entry, writes_one_summary}
-use Rattle.tv_struct.proofs.DrawnLaws.{summary_at-past}
+use Rattle.tv_structure_form.specs.Laws.{WritesOneEntry, WritesOneSummary}
+use Rattle.tv_structure_form.proofs.StructureLaws.{writes_one_entry, writes_one_summary}
+use Rattle.tv_structure_form.proofs.DrawnLaws.{summary_at-past}
 use Rattle.tv_struct.proofs.Library.{length-row_at, get_or-row_at, length-unary_row, get_or-unary_row}
-use Rattle.tv_struct.proofs.Library.{entry-arity, value_at-past}
+use Rattle.tv_structure_form.proofs.Library.{value_at-past}
+use Rattle.tv_struct.proofs.Library.{entry-arity}
 use Rattle.tv_blur.specs.Classes.{ChangesOnly}
 use Rattle.tv_join.specs.Pairwise.{IsJoined, HasJoinedValues, HasJoinedSummaries}
 use Rattle.tv_join.proofs.Entries.{joined-everywhere}

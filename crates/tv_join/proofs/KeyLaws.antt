@@ -14,11 +14,12 @@ use Rattle.tv_kleene.specs.declared.K3.TheVariants.{No}
 use Rattle.tv_model.specs.Program.{ProgramForm, PredForm}
 use Rattle.tv_model.specs.Valid.{program_arities}
 use Rattle.tv_model.proofs.Lists.{map-agreed}
-use Rattle.tv_struct.specs.StructureForm.{StructureForm, structure_of, value_at, arities_of, kept_from}
+use Rattle.tv_structure_form.specs.StructureForm.{StructureForm, structure_of, value_at, arities_of}
+use Rattle.tv_structure_form.specs.StructureForm.{kept_from}
 use Rattle.tv_struct.specs.StructureRows.{HasArity}
-use Rattle.tv_struct.proofs.Library.{fits_or_No}
-use Rattle.tv_struct.proofs.OriginLaws.{IsKept, kept_found, kept_flag}
-use Rattle.tv_struct.proofs.StructureLaws.{value_at-past}
+use Rattle.tv_structure_form.proofs.Library.{fits_or_No}
+use Rattle.tv_structure_form.proofs.OriginLaws.{IsKept, kept_found, kept_flag}
+use Rattle.tv_structure_form.proofs.StructureLaws.{value_at-past}
 use Rattle.tv_blur.specs.Names.{canonical_name}
 use Rattle.tv_step_laws.specs.Shaped.{is_telling, telling_preds}
 use Rattle.tv_join.specs.Keyed.{Counts, AreFlags, SameKey}

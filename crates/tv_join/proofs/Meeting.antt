@@ -19,7 +19,7 @@ use Rattle.tv_rules.proofs.Ranges.{rules_are_plain}
 use Rattle.tv_stable_laws.specs.Laws.{joined}
 use Rattle.tv_stable_laws.specs.Stable.{IsStable}
 use Rattle.tv_stable_laws.proofs.Joins.{joins_are_stable}
-use Rattle.tv_struct.specs.StructureForm.{StructureForm, structure_of}
+use Rattle.tv_structure_form.specs.StructureForm.{StructureForm, structure_of}
 use Rattle.tv_join.specs.Pairwise.{IsJoined}
 use Rattle.tv_step.specs.Setting.{IsStableIn}
 use Rattle.tv_join.specs.Members.{MembersForm, IsRaised, Puts}

@@ -9,7 +9,7 @@ use Rattle.std.proofs.lemmas.Option.{slice_get_within}
 use Rattle.tv_model.specs.Program.{ProgramForm}
 use Rattle.tv_model.proofs.Lists.{Contains-none}
 use Rattle.tv_listing.specs.ListingForm.{at_node}
-use Rattle.tv_struct.specs.StructureForm.{StructureForm}
+use Rattle.tv_structure_form.specs.StructureForm.{StructureForm}
 use Rattle.tv_join.specs.Members.{MembersForm}
 use Rattle.tv_join.proofs.Indexing.{indexed-none}
 use Rattle.tv_join.specs.Flags.{key_flags}

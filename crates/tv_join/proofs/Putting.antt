@@ -7,7 +7,7 @@ use Rattle.std.proofs.lemmas.Option.{same_Some, slice_get_within}
 use Rattle.tv_lemmas.proofs.Lists.{found_at, pushed_at, set_there, pushed_there, still_at}
 use Rattle.tv_model.specs.Program.{ProgramForm}
 use Rattle.tv_model.proofs.Lists.{slice_get-contains}
-use Rattle.tv_struct.specs.StructureForm.{StructureForm}
+use Rattle.tv_structure_form.specs.StructureForm.{StructureForm}
 use Rattle.tv_join.specs.Keyed.{SameKey}
 use Rattle.tv_join.specs.Pairwise.{IsUnder, IsJoined}
 use Rattle.tv_join.specs.Members.{Puts}

@@ -12,12 +12,12 @@ use Rattle.tv_model.specs.Valid.{IsValid}
 use Rattle.tv_model.proofs.Lists.{All-from_contains, Contains-none}
 use Rattle.tv_model.proofs.Parts.{start-node}
 use Rattle.tv_listing.specs.ListingForm.{at_node}
-use Rattle.tv_struct.specs.StructureForm.{StructureForm}
+use Rattle.tv_structure_form.specs.StructureForm.{StructureForm}
 use Rattle.tv_step_laws.specs.Budgets.{MeetsSplits, MeetsIndividuals}
 use Rattle.tv_step_laws.proofs.Exact.{results-once}
 use Rattle.tv_join.specs.Pairwise.{IsUnder}
 use Rattle.tv_join.specs.Members.{MembersForm}
-use Rattle.tv_work.specs.Analysed.{KeepAllBudgets, Meets}
+use Rattle.tv_work.specs.Analyzed.{KeepAllBudgets, Meets}
 use Rattle.tv_work.specs.Reach.{Point, IsStartPoint}
 use Rattle.tv_work.specs.Task.{TaskForm}
 use Rattle.tv_join.specs.Flags.{IsPlain}

@@ -10,9 +10,9 @@ use Rattle.tv_model.specs.Program.{ProgramForm}
 use Rattle.tv_model.specs.declared.program.Mode.{Mode}
 use Rattle.tv_step_laws.proofs.Exact.{sorted-same}
 use Rattle.tv_struct.specs.Order.{structure_cmp, structure_cmp_total}
-use Rattle.tv_struct.specs.StructureForm.{StructureForm}
+use Rattle.tv_structure_form.specs.StructureForm.{StructureForm}
 use Rattle.tv_work.proofs.Single.{lines_apart}
-use Rattle.tv_work.specs.Analysed.{IsBefore, IsReported}
+use Rattle.tv_work.specs.Analyzed.{IsBefore, IsReported}
 use Rattle.tv_work.specs.Reach.{IsListed, Point}
 use Rattle.tv_work.specs.Task.{TaskForm}
 use Rattle.tv_join.specs.Joined.{IsJoined}

@@ -12,11 +12,11 @@ use Rattle.tv_kleene.specs.declared.K3.{K3}
 use Rattle.tv_kleene.specs.declared.K3.TheVariants.{No, Half, Yes}
 use Rattle.tv_kleene.specs.Kleene.{LiesUnder}
 use Rattle.tv_model.specs.Program.{PredForm}
-use Rattle.tv_struct.specs.Halves.{half_of, half_of_flag, row_halves, plane_halves, half_count}
-use Rattle.tv_struct.specs.TableForm.{PlaneForm, IsPlane, no_plane, value_in, cell, row_of, column_of}
-use Rattle.tv_struct.specs.TableForm.{row_count, column_count}
-use Rattle.tv_struct.specs.StructureForm.{StructureForm, IsStructure}
-use Rattle.tv_struct.proofs.StructureLaws.{value_in-fits}
+use Rattle.tv_structure_form.specs.Halves.{half_of, half_of_flag, row_halves, plane_halves, half_count}
+use Rattle.tv_structure_form.specs.TableForm.{PlaneForm, IsPlane, no_plane, value_in, cell, row_of, column_of}
+use Rattle.tv_structure_form.specs.TableForm.{row_count, column_count}
+use Rattle.tv_structure_form.specs.StructureForm.{StructureForm, IsStructure}
+use Rattle.tv_structure_form.proofs.StructureLaws.{value_in-fits}
 use Rattle.tv_work.specs.Task.{TaskForm}
 use Rattle.tv_join.specs.Pairwise.{IsUnder}
 use Rattle.tv_join.specs.Flags.{IsPlain}

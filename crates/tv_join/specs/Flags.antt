@@ -1,7 +1,7 @@
 -- Which predicates count for keys, and what structures are listed.
 use Rattle.std.specs.Prelude.{◌≡◌, ◌==◌, ◌||◌, Bool, List, None, map}
 use Rattle.tv_model.specs.Program.{ProgramForm, PredForm}
-use Rattle.tv_struct.specs.StructureForm.{StructureForm, IsStructure}
+use Rattle.tv_structure_form.specs.StructureForm.{StructureForm, IsStructure}
 use Rattle.tv_step_laws.specs.Shaped.{IsShaped, is_telling}
 
 -- the predicate counts for keys: it is nullary, or names tell it

@@ -6,9 +6,9 @@ use Rattle.tv_model.specs.declared.program.Mode.{Mode}
 use Rattle.tv_model.specs.Program.{ProgramForm}
 use Rattle.tv_listing.specs.declared.analysis.MessageLine.{MessageLine}
 use Rattle.tv_struct.specs.Order.{structure_cmp}
-use Rattle.tv_struct.specs.StructureForm.{StructureForm}
+use Rattle.tv_structure_form.specs.StructureForm.{StructureForm}
 use Rattle.tv_step_laws.specs.Budgets.{MeetsSplits, MeetsIndividuals}
-use Rattle.tv_work.specs.Analysed.{IsReported, IsBefore, KeepAllBudgets, Meets}
+use Rattle.tv_work.specs.Analyzed.{IsReported, IsBefore, KeepAllBudgets, Meets}
 use Rattle.tv_work.specs.Reach.{Point, IsListed, AreMoreThan}
 use Rattle.tv_join.specs.Keys.{key_of}
 use Rattle.tv_join.specs.Rounds.{IsInRound, IsLast}

@@ -5,9 +5,10 @@ use Rattle.std.specs.Prelude.{ℕ, ◌≡◌, ◌<◌, ◌↔◌, ◌==◌, List
 use Rattle.std.specs.List.{range_with_len}
 use Rattle.tv_kleene.specs.declared.K3.{K3}
 use Rattle.tv_model.specs.Program.{ProgramForm}
-use Rattle.tv_struct.specs.TableForm.{HasEntry}
-use Rattle.tv_struct.specs.StructureForm.{StructureForm, IsStructure, structure_of, table_of, value_at}
-use Rattle.tv_struct.specs.StructureForm.{summary_at, kept_from}
+use Rattle.tv_structure_form.specs.TableForm.{HasEntry}
+use Rattle.tv_structure_form.specs.StructureForm.{StructureForm, IsStructure, structure_of, table_of}
+use Rattle.tv_structure_form.specs.StructureForm.{value_at}
+use Rattle.tv_structure_form.specs.StructureForm.{summary_at, kept_from}
 use Rattle.tv_blur.specs.Merged.{IsJoin}
 use Rattle.tv_blur.specs.Names.{canonical_name}
 use Rattle.tv_step_laws.specs.Shaped.{IsShaped, telling_preds}

@@ -4,7 +4,7 @@ use Rattle.tv_join.specs.Joined.{IsJoined}
 use Rattle.tv_listing.specs.declared.analysis.MessageLine.{MessageLine}
 use Rattle.tv_model.specs.Program.{ProgramForm}
 use Rattle.tv_model.specs.declared.program.Mode.{Mode}
-use Rattle.tv_struct.specs.StructureForm.{StructureForm}
+use Rattle.tv_structure_form.specs.StructureForm.{StructureForm}
 
 -- a program, a mode and initial structures have one joined analysis, whatever number of structures may be
 -- listed

@@ -1,7 +1,7 @@
 -- What is listed: structures of which no two at a node have one key, each the join of all that were met.
 use Rattle.std.specs.Prelude.{ℕ, ◌≡◌, List, Some, slice_get}
 use Rattle.tv_model.specs.Program.{ProgramForm}
-use Rattle.tv_struct.specs.StructureForm.{StructureForm}
+use Rattle.tv_structure_form.specs.StructureForm.{StructureForm}
 use Rattle.tv_join.specs.Keys.{key_of, IsJoinOf, HasKey}
 
 -- the listed structures are the joins by key of those of X, one for each key

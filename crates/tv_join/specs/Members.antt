@@ -4,7 +4,7 @@ use Rattle.std.specs.Prelude.{slice_set}
 use Rattle.std.specs.Map.{lookup}
 use Rattle.std.specs.Ordering.{is_eq}
 use Rattle.tv_struct.specs.Order.{structure_cmp}
-use Rattle.tv_struct.specs.StructureForm.{StructureForm, IsStructure}
+use Rattle.tv_structure_form.specs.StructureForm.{StructureForm, IsStructure}
 use Rattle.tv_join.specs.Keyed.{SameKey, IsSkeleton}
 use Rattle.tv_join.specs.Pairwise.{IsJoined}
 use Rattle.tv_join.specs.declared.members.Put.{Put}

@@ -1,9 +1,9 @@
 -- The order of information on structures with the same individuals, and their joins.
 use Rattle.std.specs.Prelude.{ℕ, ◌≡◌, ◌||◌, List, None, IsTrue}
 use Rattle.tv_kleene.specs.Kleene.{LiesUnder, join_of}
-use Rattle.tv_struct.specs.TableForm.{HasEntry}
-use Rattle.tv_struct.specs.StructureForm.{StructureForm, IsStructure, arities_of, table_of, value_at}
-use Rattle.tv_struct.specs.StructureForm.{summary_at}
+use Rattle.tv_structure_form.specs.TableForm.{HasEntry}
+use Rattle.tv_structure_form.specs.StructureForm.{StructureForm, IsStructure, arities_of, table_of, value_at}
+use Rattle.tv_structure_form.specs.StructureForm.{summary_at}
 
 -- s lies under t: each value under that of t, and each summary is one in t
 pub record IsUnder (s t : StructureForm) : Type 0 where

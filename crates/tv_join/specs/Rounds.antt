@@ -3,7 +3,7 @@
 use Rattle.std.specs.Prelude.{ℕ, ◌⊎◌, ◌↔◌, zero, suc, List}
 use Rattle.tv_model.specs.declared.program.Mode.{Mode}
 use Rattle.tv_model.specs.Program.{ProgramForm}
-use Rattle.tv_struct.specs.StructureForm.{StructureForm}
+use Rattle.tv_structure_form.specs.StructureForm.{StructureForm}
 use Rattle.tv_work.specs.Reach.{Point, IsStartPoint, Follows}
 use Rattle.tv_join.specs.Keys.{IsJoinByKey}
 

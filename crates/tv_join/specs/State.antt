@@ -2,7 +2,7 @@
 use Rattle.std.specs.Prelude.{ℕ, ◌≡◌, ◌<◌, ◌+◌, zero, suc, Bool, List, [], length, sum_by, map, Option}
 use Rattle.std.specs.Prelude.{Some, None, Contains, slice_get, slice_set, slice_index_or}
 use Rattle.tv_model.specs.Program.{ProgramForm}
-use Rattle.tv_struct.specs.StructureForm.{StructureForm}
+use Rattle.tv_structure_form.specs.StructureForm.{StructureForm}
 use Rattle.tv_step.specs.Setting.{IsStableIn}
 use Rattle.tv_work.specs.Reach.{Point, IsListed}
 use Rattle.tv_work.specs.Task.{TaskForm}

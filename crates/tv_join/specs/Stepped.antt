@@ -4,13 +4,13 @@ use Rattle.tv_kleene.specs.declared.K3.{K3}
 use Rattle.tv_kleene.specs.Kleene.{larger_of}
 use Rattle.tv_model.specs.declared.program.Edge.{Edge}
 use Rattle.tv_model.specs.Program.{ProgramForm}
-use Rattle.tv_struct.specs.StructureForm.{StructureForm}
+use Rattle.tv_structure_form.specs.StructureForm.{StructureForm}
 use Rattle.tv_step_laws.specs.Budgets.{KeepsBudgets, MeetsSplits, MeetsIndividuals}
 use Rattle.tv_step.specs.Setting.{IsStableIn}
 use Rattle.tv_step_laws.specs.Settled.{IsSettled}
 use Rattle.tv_step_laws.specs.Transfer.{AreMessageValues, AreResults, IsMessageValue, IsOpening, HasNoOpening}
 use Rattle.tv_join.specs.Members.{MembersForm}
-use Rattle.tv_work.specs.Analysed.{KeepAllBudgets, Meets}
+use Rattle.tv_work.specs.Analyzed.{KeepAllBudgets, Meets}
 use Rattle.tv_work.specs.Explored.{AreSaid}
 use Rattle.tv_work.specs.Leaving.{LeavesBy}
 use Rattle.tv_work.specs.Reach.{Point, IsStartPoint}

@@ -1,7 +1,7 @@
 -- How far what is listed has risen: further whenever something changes, and never past a bound.
 use Rattle.std.specs.Prelude.{ℕ, ◌+◌, ◌*◌, List, length, sum_by}
-use Rattle.tv_struct.specs.Halves.{half_count}
-use Rattle.tv_struct.specs.StructureForm.{StructureForm}
+use Rattle.tv_structure_form.specs.Halves.{half_count}
+use Rattle.tv_structure_form.specs.StructureForm.{StructureForm}
 use Rattle.tv_work.specs.Task.{TaskForm}
 
 -- one for the structure, and one for each value of it that is unknown and each summary

@@ -4,22 +4,21 @@ ghost use Rattle.std.specs.Prelude.{◌≡◌, ◌≤◌, ◌<◌, ◌^◌, [], 
 ghost use Rattle.tv_listing.specs.ListingForm.{AreSorted};
 ghost use Rattle.tv_model.specs.Program.{pred_of, program_of};
 ghost use Rattle.tv_model.specs.Valid.{IsValid};
-ghost use Rattle.tv_struct.specs.StructureForm.{IsStructure, IsOver};
+ghost use Rattle.tv_structure_form.specs.StructureForm.{IsStructure, IsOver};
 ghost use Rattle.tv_step_laws.specs.Closed.{IsClosed, CoversRuns};
 ghost use Rattle.tv_work.specs.Told.{AreLines};
 ghost use Rattle.tv_join.specs.Flags.{is_counted, key_flags};
 ghost use Rattle.tv_join.specs.Joined.{IsJoined, IsJoinCause};
 ghost use Rattle.tv_join.specs.State.{listing_of};
 
+use crate::keyed::KeyedTask;
 use crate::rounds::{Ended, all_rounds};
-use crate::task::Task;
 use std::alloc::{AllocError, Global};
-use tv_eval::Scratch;
 use tv_listing::Analysis;
 use tv_model::{Mode, Pred, Program};
-use tv_step::Engine;
+use tv_step::Stepper;
 use tv_struct::Structures;
-use tv_work::{WorkError, analysis_of, leaving_edges};
+use tv_work::{Task, WorkError, analysis_of, leaving_edges};
 
 /// For each predicate whether it counts for keys: it is nullary, or individuals are told apart by it.
 fn key_flags(alloc: Global, program: &Program) -> Result<Vec<bool>, AllocError>
@@ -55,7 +54,7 @@ fn answer(alloc: Global, ended: Ended) -> Result<Analysis, AllocError>
 /// maps. At most one structure is listed for a node and a key. The listing covers all runs, and isn't exact:
 /// it may list what no abstract step reaches. `Structures` only where a round lists over `max` structures,
 /// `Splits` and `Individuals` only where the step of a structure that a round lists meets that budget.
-pub fn analyse_joined(
+pub fn analyze_joined(
     alloc: Global,
     program: &Program,
     initial: &Structures,
@@ -74,20 +73,21 @@ pub fn analyse_joined(
         a.messages) }
     ensures cause { IfErr result (IsJoinCause (program_of program.now) mode initial.now max) }
 {
-    let engine = Engine::new(alloc, program, mode)?;
+    let mut stepper = Stepper::new(alloc, program, mode)?;
     let leaving = leaving_edges(alloc, program)?;
     let counted = key_flags(alloc, program)?;
-    let mut scratch = Scratch::new(alloc, program, 256)?;
     let task = Task {
         alloc,
         program,
-        engine: &engine,
         leaving: &leaving,
-        counted: &counted,
         initial: initial.as_slice(),
         mode,
         max,
     };
-    let ended = all_rounds(&task, &mut scratch)?;
+    let keyed = KeyedTask {
+        task,
+        counted: &counted,
+    };
+    let ended = all_rounds(&keyed, &mut stepper)?;
     Ok(answer(alloc, ended)?)
 }

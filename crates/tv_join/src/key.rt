@@ -3,7 +3,7 @@
 ghost use Rattle.std.specs.Prelude.{◌≡◌, ◌<◌, ◌+◌, ℕ, List, IfOk, length};
 ghost use Rattle.tv_kleene.specs.declared.K3.TheVariants.{No};
 ghost use Rattle.tv_blur.specs.Classes.{ChangesOnly};
-ghost use Rattle.tv_struct.specs.StructureForm.{arities_of, value_at};
+ghost use Rattle.tv_structure_form.specs.StructureForm.{arities_of, value_at};
 ghost use Rattle.tv_struct.specs.StructureRows.{HasArity};
 ghost use Rattle.tv_join.specs.Keyed.{AreFlags, HasCopied, IsSkeleton};
 

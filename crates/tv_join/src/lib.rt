@@ -6,14 +6,14 @@ mod follow;
 mod joined;
 mod joins;
 mod key;
+mod keyed;
 mod laws;
 mod members;
 mod pairwise;
 mod places;
 mod rounds;
-mod task;
 mod telling;
 mod values;
 
-pub use joined::analyse_joined;
+pub use joined::analyze_joined;
 pub use laws::joined_analyses_are_one;

@@ -3,7 +3,7 @@
 ghost use Rattle.std.specs.Prelude.{◌≡◌, [], Bool, List, Some, None, IfOk, OnErr, OnOk, Contains, MatchBool};
 ghost use Rattle.std.specs.Prelude.{length};
 ghost use Rattle.std.specs.Prelude.{slice_get};
-ghost use Rattle.tv_struct.specs.StructureForm.{StructureForm, IsStructure, arities_of, unmarked};
+ghost use Rattle.tv_structure_form.specs.StructureForm.{StructureForm, IsStructure, arities_of, unmarked};
 ghost use Rattle.tv_join.specs.Keyed.{AreFlags, SameKey, IsSkeleton};
 ghost use Rattle.tv_join.specs.Members.{MembersForm, place_in, IsIndexed, Puts, IsAdded};
 
@@ -72,7 +72,7 @@ impl Members {
     /// others where there is none; it owns the structure from then on.
     ///
     /// # Errors
-    /// Want of memory. Then the structures are as they were, but of the places that are noted nothing is
+    /// Lack of memory. Then the structures are as they were, but of the places that are noted nothing is
     /// said, so that no more may be put here.
     pub fn put(&mut self, alloc: Global, counted: &[bool], s: Structure) -> Result<Put, AllocError>
         requires flags { AreFlags counted.now s }

@@ -2,7 +2,7 @@
 
 ghost use Rattle.std.specs.Prelude.{◌≡◌, ◌<◌, ◌||◌, ℕ, List, None, length};
 ghost use Rattle.tv_blur.specs.Classes.{ChangesOnly};
-ghost use Rattle.tv_struct.specs.StructureForm.{arities_of, summary_at, value_at, IsStructure};
+ghost use Rattle.tv_structure_form.specs.StructureForm.{arities_of, summary_at, value_at, IsStructure};
 ghost use Rattle.tv_struct.specs.StructureRows.{HasArity};
 ghost use Rattle.tv_join.specs.Keyed.{Counts};
 ghost use Rattle.tv_join.specs.Pairwise.{IsJoined, HasJoinedValues, HasJoinedSummaries};

@@ -21,7 +21,8 @@ use Rattle.tv_listing.specs.declared.analysis.Item.{Item}
 use Rattle.tv_listing.specs.declared.analysis.Item.TheVariants as item
 use Rattle.tv_listing.specs.declared.analysis.MapLine.{MapLine}
 use Rattle.tv_listing.specs.declared.analysis.MessageLine.{MessageLine}
-use Rattle.tv_struct.specs.StructureForm.{StructureForm, IsOver, IsStructure, arities_of, structure_of}
+use Rattle.tv_structure_form.specs.StructureForm.{StructureForm, IsOver, IsStructure, arities_of}
+use Rattle.tv_structure_form.specs.StructureForm.{structure_of}
 use Rattle.tv_embed.specs.Maps.{image_of}
 use Rattle.tv_embed.proofs.MapLaws.{identity_embeds}
 use Rattle.tv_cover.specs.Covers.{IsFirstCover}

@@ -5,7 +5,7 @@ use Rattle.std.specs.Prelude.{All, None, Some, slice_get, if◌then◌else◌}
 use Rattle.std.proofs.lemmas.Bool.{eqb-true, and_parts}
 use Rattle.std.proofs.lemmas.List.Elements.{All-nil, All-head, All-tail, All-push, All-weaker}
 use Rattle.tv_listing.specs.ListingForm.{at_node}
-use Rattle.tv_struct.specs.StructureForm.{StructureForm, unmarked}
+use Rattle.tv_structure_form.specs.StructureForm.{StructureForm, unmarked}
 use Rattle.tv_step_laws.specs.Settled.{IsSettled}
 use Rattle.tv_judge.specs.Found.{IsStableIn, IsStableAt, IsTestedTo}
 use Rattle.tv_judge.specs.Index.{is_said}

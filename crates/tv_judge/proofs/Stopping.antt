@@ -5,7 +5,7 @@ use Rattle.tv_model.specs.Program.{ProgramForm}
 use Rattle.tv_listing.specs.declared.analysis.Item.{Item}
 use Rattle.tv_listing.specs.declared.analysis.Item.TheVariants as item
 use Rattle.tv_listing.specs.declared.analysis.MapLine.{MapLine}
-use Rattle.tv_struct.specs.StructureForm.{StructureForm}
+use Rattle.tv_structure_form.specs.StructureForm.{StructureForm}
 use Rattle.tv_struct.specs.declared.analysis.StageError.{StageError}
 use Rattle.tv_struct.specs.declared.analysis.StageError.TheVariants.{Splits, Individuals, Memory}
 use Rattle.tv_step_laws.specs.Budgets.{KeepsBudgets, MeetsSplits, MeetsIndividuals, IsStepCause}

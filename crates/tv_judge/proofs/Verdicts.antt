@@ -11,7 +11,7 @@ use Rattle.tv_listing.specs.ListingForm.{at_node}
 use Rattle.tv_listing.specs.declared.analysis.Item.{Item}
 use Rattle.tv_listing.specs.declared.analysis.Item.TheVariants as item
 use Rattle.tv_listing.specs.declared.analysis.MapLine.{MapLine}
-use Rattle.tv_struct.specs.StructureForm.{StructureForm}
+use Rattle.tv_structure_form.specs.StructureForm.{StructureForm}
 use Rattle.tv_step_laws.specs.Closed.{IsCovered, IsOpened as IsOpenedIn, IsFollowed, IsClosed}
 use Rattle.tv_step_laws.specs.Transfer.{IsOpening, HasNoOpening}
 use Rattle.tv_step_laws.proofs.Exact.{opening-once, results-once}

@@ -4,7 +4,7 @@ use Rattle.tv_listing.specs.ListingForm.{at_node}
 use Rattle.tv_listing.specs.declared.analysis.MapLine.{MapLine}
 use Rattle.tv_rules.specs.Closing.{closed_rules}
 use Rattle.tv_stable_laws.specs.Stable.{IsStable}
-use Rattle.tv_struct.specs.StructureForm.{StructureForm, structure_of}
+use Rattle.tv_structure_form.specs.StructureForm.{StructureForm, structure_of}
 use Rattle.tv_judge.specs.Judged.{Case}
 use Rattle.tv_judge.specs.Progress.{IsDoneTo}
 use Rattle.tv_judge.specs.declared.found.Found.{Found}

@@ -8,7 +8,7 @@ use Rattle.tv_listing.specs.ListingForm.{at_node}
 use Rattle.tv_listing.specs.declared.analysis.Item.{Item}
 use Rattle.tv_listing.specs.declared.analysis.Item.TheVariants.{Initial, Result}
 use Rattle.tv_listing.specs.declared.analysis.MapLine.{MapLine}
-use Rattle.tv_struct.specs.StructureForm.{StructureForm}
+use Rattle.tv_structure_form.specs.StructureForm.{StructureForm}
 use Rattle.tv_embed.specs.Maps.{IsEmbedding}
 use Rattle.tv_step_laws.specs.Closed.{IsCovered}
 use Rattle.tv_step_laws.specs.Transfer.{IsOpening, AreResults}

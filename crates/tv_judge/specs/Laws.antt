@@ -13,7 +13,7 @@ abbrev pub ClosedListingsAreClosedReports : Type 0
 ClosedListingsAreClosedReports = (c : Case) → IsValid c.program → c.analysis.maps ≡ []
     → IsClosed c.program c.mode c.initial c.analysis.listing c.analysis.messages → IsClosedReport c
 
--- the only verdict is acceptance, and the only error is want of memory
+-- the only verdict is acceptance, and the only error is lack of memory
 pub record IsOnlyAccepted (c : Case) : Type 0 where
   pub verdicts : (v : Verdict) → IsVerdict c v → IsAcceptance v
   pub errors : (e : StageError) → IsJudgeCause c e → e ≡ Memory

@@ -8,7 +8,7 @@ use Rattle.tv_listing.specs.declared.analysis.Item.TheVariants as item
 use Rattle.tv_listing.specs.declared.analysis.MapLine.{MapLine}
 use Rattle.tv_listing.specs.declared.analysis.Rejection.{Rejection}
 use Rattle.tv_listing.specs.declared.analysis.Rejection.TheVariants as rejection
-use Rattle.tv_struct.specs.StructureForm.{StructureForm}
+use Rattle.tv_structure_form.specs.StructureForm.{StructureForm}
 use Rattle.tv_step_laws.specs.Budgets.{KeepsBudgets}
 use Rattle.tv_step_laws.specs.Closed.{HasLine}
 use Rattle.tv_step_laws.specs.Transfer.{IsOpening, HasNoOpening, AreResults, AreMessageValues}

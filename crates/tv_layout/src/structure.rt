@@ -1,7 +1,7 @@
 //! The structure that seems to stand in front of a text.
 
 ghost use Rattle.std.specs.Prelude.{◌≡◌, ◌≤◌, None, IfOk, IfSome, All, length};
-ghost use Rattle.tv_struct.specs.StructureForm.{IsStructure, IsOver, arities_of};
+ghost use Rattle.tv_structure_form.specs.StructureForm.{IsStructure, IsOver, arities_of};
 
 use crate::text::{behind, behind_place, split_line};
 use std::alloc::{AllocError, Global};

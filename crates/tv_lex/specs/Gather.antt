@@ -103,7 +103,7 @@ Gathers None name answer = Unit {0}
 Gathers (Some held) name answer = gathered [] (file_events held deepest_include name) ≡ answer
 
 -- Why a text wasn't gathered. At Failed a fault was counted, and on steady files a name that the text comes
--- to, before any other refusal, holds nothing. Of want of memory nothing is said.
+-- to, before any other refusal, holds nothing. Of lack of memory nothing is said.
 abbrev pub GatherCause : GatherError → Option Held → List ℕ → Type 0 → ℕ → ℕ → Type 0
 GatherCause Failed told name steady old new = Rose old new × (steady → Gathers told name (Err Failed))
 GatherCause TooLong told name steady old new = Gathers told name (Err TooLong)

@@ -7,5 +7,6 @@ pub mod Front
 pub mod Include
 pub mod Comments
 pub mod Gather
+pub mod Traced
 pub mod Parts
 pub mod Spaced

@@ -7,7 +7,8 @@ ghost use Rattle.tv_lex.specs.Gather.{longest_gathered, deepest_include, UnlessF
 ghost use Rattle.tv_lex.specs.Gather.{BeginsUpTo, GatherCause, Puts, PutCause, GivesBytes};
 ghost use Rattle.tv_lex.specs.Gather.{BytesCause};
 ghost use Rattle.tv_lex.specs.Gather.{come_to, file_events, included, below, one_line, opens, gather_error};
-ghost use Rattle.tv_lex.specs.Parts.{AreParts, IsOpen, IsLineBefore, KeepsParts};
+ghost use Rattle.tv_lex.specs.Parts.{HasParts, IsLineBefore, IsMadeOf, IsOpen, PutsTraced};
+ghost use Rattle.tv_lex.specs.Traced.{ArePut, Traced, traced_below, traced_file, traced_include, traced_line};
 ghost use Rattle.tv_lex.specs.declared.gatherer.GatherError.TheVariants.{Memory};
 
 use crate::include::{include_name, includes, inner_name, is_open_after, line_len};
@@ -39,7 +40,7 @@ pub enum GatherError {
     /// A file is included from a file that is 16 includes deep.
     #[error("files include one another too deep")]
     IncludeDepth,
-    /// Want of memory.
+    /// Lack of memory.
     #[error("out of memory")]
     Memory,
 }
@@ -134,9 +135,8 @@ fn close_part(
 ) -> Result<(), AllocError>
     requires { vec_len out.old.bytes ≤ longest_gathered }
     ensures bytes { out.new.bytes ≡ out.old.bytes }
-    ensures parts { OnOk result ((told : Option Held) (rest : List ℕ)
-        → IsOpen told name.now rest out.old.bytes.items out.old.parts.items reading
-        → AreParts told 0 out.new.parts.items out.new.bytes.items) }
+    ensures parts { OnOk result ((rest : List ℕ) (traced : List Traced)
+        → IsOpen name.now rest traced out.old reading → IsMadeOf traced out.new) }
 {
     let end = out.bytes.len() as u32;
     if reading.start < end {
@@ -170,7 +170,8 @@ fn put_include<F: Files>(
     ensures put { OnOk result (Puts (F.holds files.old)
         (λ held. included (below held left) name.now line.now) out.old.bytes.items
         (Ok out.new.bytes.items)) }
-    ensures parts { OnOk result (KeepsParts (F.holds files.old) out.old out.new) }
+    ensures parts { OnOk result (PutsTraced (F.holds files.old)
+        (λ held. traced_include (traced_below held left) name.now line.now) out.old out.new) }
     ensures cause { IfErr result (λ e. PutCause e (F.holds files.old)
         (λ held. included (below held left) name.now line.now) out.old.bytes.items (F.steady files.old)
         (F.faults files.old) (F.faults files.new)) }
@@ -212,10 +213,11 @@ fn put_line<F: Files>(
     ensures put { OnOk result (Puts (F.holds files.old)
         (λ held. one_line (included (below held left) name.now) reading.inside line.now)
         out.old.bytes.items (Ok out.new.bytes.items)) }
-    ensures parts { IfOk result (λ next. (behind : List ℕ) → IsLineBefore behind line.now
-        → IsOpen (F.holds files.old) name.now (line.now ++ behind) out.old.bytes.items out.old.parts.items
-        reading
-        → IsOpen (F.holds files.old) name.now behind out.new.bytes.items out.new.parts.items next) }
+    ensures parts { IfOk result (λ next. (behind : List ℕ) (traced : List Traced)
+        → IsLineBefore behind line.now → IsOpen name.now (line.now ++ behind) traced out.old reading
+        → (more : List Traced) × ArePut (F.holds files.old)
+        (λ held. traced_line (traced_include (traced_below held left) name.now) name.now reading.inside
+        reading.number line.now) more × IsOpen name.now behind (traced ++ more) out.new next) }
     ensures cause { IfErr result (λ e. PutCause e (F.holds files.old)
         (λ held. one_line (included (below held left) name.now) reading.inside line.now)
         out.old.bytes.items (F.steady files.old) (F.faults files.old) (F.faults files.new)) }
@@ -253,7 +255,8 @@ fn put_file<F: Files>(
         (F.begins files.old) (F.begins files.new) }
     ensures put { OnOk result (Puts (F.holds files.old) (λ held. file_events held left name.now)
         out.old.bytes.items (Ok out.new.bytes.items)) }
-    ensures parts { OnOk result (KeepsParts (F.holds files.old) out.old out.new) }
+    ensures parts { OnOk result (PutsTraced (F.holds files.old)
+        (λ held. traced_file held left name.now) out.old out.new) }
     ensures cause { IfErr result (λ e. PutCause e (F.holds files.old) (λ held. file_events held left name.now)
         out.old.bytes.items (F.steady files.old) (F.faults files.old) (F.faults files.new)) }
     ensures steady { F.steady files.old
@@ -279,8 +282,8 @@ fn put_file<F: Files>(
 /// A line whose first byte other than a space or a tab is `#`, and that doesn't begin inside a block comment,
 /// is an include line. The text of the file that it names and a line feed stand in its place. Each file is
 /// begun once for each place that includes it and that is come to before a refusal. The text has at most
-/// 4,194,304 bytes, whatever the files tell. Each of its parts stands so in its file; all else in it is line
-/// feeds.
+/// 4,194,304 bytes, whatever the files tell. Its parts tell of each byte from which line of which file it is;
+/// all else in it is the line feed behind what an include line gives.
 ///
 /// # Errors
 /// `Failed` comes only where a call of `files` failed, and on steady files only where they don't hold this
@@ -294,7 +297,7 @@ pub fn gather<F: Files>(alloc: Global, files: &mut F, name: &str) -> Result<Gath
         (λ held. come_to [] (file_events held deepest_include name.now))
         (F.begins files.old) (F.begins files.new) }
     ensures text { IfOk result (λ g. Gathers (F.holds files.old) name.now (Ok g.bytes.items)) }
-    ensures parts { IfOk result (λ g. AreParts (F.holds files.old) 0 g.parts.items g.bytes.items) }
+    ensures parts { IfOk result (HasParts (F.holds files.old) name.now) }
     ensures cause { IfErr result (λ e. GatherCause e (F.holds files.old) name.now (F.steady files.old)
         (F.faults files.old) (F.faults files.new)) }
     ensures size { IfOk result (λ g. vec_len g.bytes ≤ longest_gathered) }

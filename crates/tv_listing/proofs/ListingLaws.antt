@@ -17,7 +17,7 @@ use Rattle.std.proofs.lemmas.Bool.{cases_eq, cases_lt}
 use Rattle.indexmap.specs.IndexSet.{insert_key}
 use Rattle.tv_listing.specs.ListingForm.{HasEqual, Adds, AddsAt, IsSortedFrom, at_node}
 use Rattle.tv_struct.specs.Order.{structure_cmp}
-use Rattle.tv_struct.specs.StructureForm.{StructureForm, unmarked}
+use Rattle.tv_structure_form.specs.StructureForm.{StructureForm, unmarked}
 use Rattle.tv_struct.proofs.OrderLaws.{structure_cmp-Equal, Equal-from_unmarked}
 
 -- equal, marks aside, as the order decides it

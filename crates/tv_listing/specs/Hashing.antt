@@ -7,7 +7,7 @@ use Rattle.std.specs.Ordering.{eq_by_cmp}
 use Rattle.tv_struct.proofs.OrderLaws.{structure_cmp-Equal}
 use Rattle.tv_struct.specs.Order.{structure_cmp}
 use Rattle.tv_struct.specs.Signature.{signature_of}
-use Rattle.tv_struct.specs.StructureForm.{StructureForm}
+use Rattle.tv_structure_form.specs.StructureForm.{StructureForm}
 
 -- what is equal but for its mark has one signature
 pub signature_respects : (a b : StructureForm) → IsTrue (eq_by_cmp structure_cmp a b)

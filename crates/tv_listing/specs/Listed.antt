@@ -1,7 +1,7 @@
 -- Listings of a program.
 use Rattle.std.specs.Prelude.{◌≡◌, ◌<◌, ◌^◌, List, length, All}
 use Rattle.tv_model.specs.declared.program.Program.{Program}
-use Rattle.tv_struct.specs.StructureForm.{StructureForm, IsStructure, IsOver}
+use Rattle.tv_structure_form.specs.StructureForm.{StructureForm, IsStructure, IsOver}
 
 -- for each node a list of fewer than 2 ^ 32 structures over the vocabulary
 pub record IsListing (program : Program) (listing : List (List StructureForm)) : Type 0 where

@@ -4,7 +4,7 @@ use Rattle.std.specs.Prelude.{IsPermutation, Result, Ok, Err, slice_index_or, sl
 use Rattle.std.specs.declared.alloc.AllocError.{AllocError}
 use Rattle.std.specs.List.Sorted.{IsSorted}
 use Rattle.tv_struct.specs.Order.{structure_cmp}
-use Rattle.tv_struct.specs.StructureForm.{StructureForm, unmarked}
+use Rattle.tv_structure_form.specs.StructureForm.{StructureForm, unmarked}
 
 -- the structures that stand at a node
 abbrev pub at_node : List (List StructureForm) → ℕ → List StructureForm

@@ -22,7 +22,7 @@ pub struct Hashed {
 }
 
 impl Model for Hashed {
-    ghost use Rattle.tv_struct.specs.StructureForm.{StructureForm};
+    ghost use Rattle.tv_structure_form.specs.StructureForm.{StructureForm};
 
     ghost Value = { StructureForm };
 

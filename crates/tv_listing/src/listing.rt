@@ -2,7 +2,7 @@
 
 ghost use Rattle.std.specs.Prelude.{◌≡◌, ◌<◌, [], length, replicate, is_ok, if◌then◌else◌, slice_get, IfOk};
 ghost use Rattle.std.specs.Prelude.{Some};
-ghost use Rattle.tv_struct.specs.StructureForm.{IsStructure};
+ghost use Rattle.tv_structure_form.specs.StructureForm.{IsStructure};
 ghost use Rattle.tv_listing.specs.ListingForm.{at_node, appended, AddsAt, AreSorted};
 
 use crate::node::Node;
@@ -20,7 +20,7 @@ pub struct Listing {
 
 impl Model for Listing {
     ghost use Rattle.std.specs.Prelude.{List};
-    ghost use Rattle.tv_struct.specs.StructureForm.{StructureForm};
+    ghost use Rattle.tv_structure_form.specs.StructureForm.{StructureForm};
 
     ghost Value = { List (List StructureForm) };
 

@@ -21,7 +21,7 @@ pub struct Node {
 
 impl Model for Node {
     ghost use Rattle.std.specs.Prelude.{List, ◌++◌};
-    ghost use Rattle.tv_struct.specs.StructureForm.{StructureForm};
+    ghost use Rattle.tv_structure_form.specs.StructureForm.{StructureForm};
 
     ghost Value = { List StructureForm };
 
@@ -92,7 +92,7 @@ impl Node {
         self.added.contains(s) || self.pushed.contains(s)
     }
 
-    /// The same structures in ascending order.
+    /// The node's structures in ascending order.
     pub fn sorted(self, alloc: Global) -> Result<Node, AllocError>
         ensures { IfOk result (IsSortedFrom self) }
     {

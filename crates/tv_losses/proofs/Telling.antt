@@ -13,7 +13,7 @@ use Rattle.tv_model.specs.declared.program.Edge.{Edge}
 use Rattle.tv_model.specs.declared.program.Mode.{Mode}
 use Rattle.tv_model.specs.Program.{ProgramForm}
 use Rattle.tv_model.proofs.Lists.{Contains-none}
-use Rattle.tv_struct.specs.StructureForm.{StructureForm}
+use Rattle.tv_structure_form.specs.StructureForm.{StructureForm}
 use Rattle.tv_losses.specs.Losses.{AreExactly, IsLostAt, IsEdgeLoss, AreEdgeLosses}
 use Rattle.tv_losses.specs.Tasks.{Tells, list_of}
 use Rattle.tv_losses.specs.declared.told.EdgeLoss.{EdgeLoss}

@@ -3,11 +3,14 @@
 #![tactic(auto)]
 
 mod along;
-mod analysed;
+mod analyzed;
 mod apart;
+mod case;
 mod edges;
+mod enabled;
 mod task;
 mod told;
 
-pub use analysed::losses;
+pub use analyzed::losses;
+pub use enabled::is_enabled_at_hand;
 pub use told::{EdgeLoss, EdgeLosses, Losses, Places};

@@ -5,7 +5,7 @@ use Rattle.std.specs.Prelude.{suc, zero}
 use Rattle.std.proofs.lemmas.List.Elements.{Contains-get_or}
 use Rattle.std.proofs.lemmas.Option.{none-some, same_Some, slice_get_within}
 use Rattle.tv_model.specs.Program.{ProgramForm}
-use Rattle.tv_struct.specs.StructureForm.{StructureForm}
+use Rattle.tv_structure_form.specs.StructureForm.{StructureForm}
 use Rattle.tv_losses_unmet.specs.declared.claim.Claim.{Claim}
 use Rattle.tv_losses.specs.Losses.{AreExactly, HasNoOpeningAt}
 use Rattle.std.proofs.Common.{sym, ap, append_assoc}

@@ -1,10 +1,11 @@
 -- The text of losses.
-use Rattle.std.specs.Prelude.{ℕ, suc, List, [], ◌∷◌, ◌++◌, Option, None, Some, slice_get, codes}
+use Rattle.std.specs.Prelude.{ℕ, suc, ◌+◌, List, [], ◌∷◌, ◌++◌, Option, None, Some, length, slice_get, codes}
 use Rattle.tv_edge_heads.specs.Heads.{head_at}
 use Rattle.tv_file_lines.specs.Numbered.{numbered}
 use Rattle.tv_losses.specs.declared.told.EdgeLoss.{EdgeLoss}
 use Rattle.tv_losses.specs.declared.told.Losses.{Losses}
 use Rattle.tv_model.specs.Program.{ProgramForm, PredForm}
+use Rattle.tv_replay_laws.specs.JudgedRules.{rules_of_properties}
 use Rattle.tv_losses_unmet.specs.declared.claim.Claim.{Claim}
 use Rattle.tv_losses_unmet.specs.declared.claim.Claim.TheVariants.{Predicate, Rule}
 
@@ -20,10 +21,14 @@ name_of_pred (Some d) = d.name
 abbrev pub declaration_written : ProgramForm → (q : ℕ) → List ℕ
 declaration_written p q = codes "the declaration of " ++ name_of_pred (slice_get p.preds q)
 
+-- The number of a declared rule among those by which heaps are judged: behind those of the properties.
+abbrev pub rule_number : ProgramForm → (declared : ℕ) → ℕ
+rule_number p declared = length (rules_of_properties 0 p.preds) + declared
+
 -- `the declaration of NAME`, `rule NUMBER`, or that no declaration alone is contradicted
 abbrev pub claim_written : ProgramForm → Option Claim → List ℕ
 claim_written p (Some (Predicate q)) = declaration_written p q.0
-claim_written p (Some (Rule number)) = numbered (codes "rule ") number
+claim_written p (Some (Rule number)) = numbered (codes "rule ") (rule_number p number)
 claim_written p None = codes "declarations together"
 
 -- `initial NUMBER has no opening, by `, what it contradicts, and a line feed

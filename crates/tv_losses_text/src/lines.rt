@@ -1,18 +1,43 @@
 //! Losses, each in one line.
 
-ghost use Rattle.std.specs.Prelude.{◌≡◌, ◌++◌, ◌<◌, IfOk, OnOk, Some, length, slice_get};
+ghost use Rattle.std.specs.Prelude.{◌≡◌, ◌++◌, ◌+◌, ◌<◌, IfOk, OnOk, Some, codes, length, slice_get};
+ghost use Rattle.tv_file_lines.specs.Numbered.{numbered};
 ghost use Rattle.tv_model.specs.Program.{program_of};
+ghost use Rattle.tv_model.specs.Valid.{IsValid};
 ghost use Rattle.tv_losses_text.specs.Texts.{edge_loss, edge_losses, initial_loss, initial_losses};
 ghost use Rattle.tv_losses_text.specs.Texts.{losses_text, lost_lines, node_loss, node_losses};
 ghost use Rattle.tv_losses_text.specs.Texts.{claim_in, claim_written, declaration_written};
 ghost use Rattle.tv_losses_text.specs.Texts.{head_line, name_of_pred, name_written};
+ghost use Rattle.tv_losses_text.specs.Counted.{IsCounted};
 
+use itoa::Buffer;
 use std::alloc::{AllocError, Global};
 use tv_edge_heads::head_at;
 use tv_file_lines::append_numbered;
 use tv_losses::{EdgeLoss, Losses};
 use tv_losses_unmet::Claim;
 use tv_model::{Bytes, Names, PredId, Program};
+use tv_replay_judge::property_rules;
+
+/// A program, and how many rules its properties stand for.
+#[derive(Clone, Copy)]
+struct Declared<'a> {
+    program: &'a Program,
+    properties: usize,
+}
+
+/// The program with its count.
+fn counted<'a>(alloc: Global, program: &'a Program) -> Result<Declared<'a>, AllocError>
+    requires { IsValid (program_of program.now) }
+    ensures program { IfOk result (λ of. of.program.now ≡ program.now) }
+    ensures count { IfOk result IsCounted }
+{
+    let properties = property_rules(alloc, program.vocab.preds.as_slice())?;
+    Ok(Declared {
+        program,
+        properties: properties.len(),
+    })
+}
 
 /// Appends the name of the predicate.
 fn append_pred(out: &mut Vec<u8>, program: &Program, p: PredId) -> Result<(), AllocError>
@@ -34,35 +59,47 @@ fn append_declaration(out: &mut Vec<u8>, program: &Program, p: PredId) -> Result
     append_pred(out, program, p)
 }
 
-/// Appends which declaration it is.
-fn append_claim(
-    out: &mut Vec<u8>,
-    program: &Program,
-    claim: Option<Claim>,
-) -> Result<(), AllocError>
+/// Appends a declared rule, by its number behind so many rules of properties.
+fn append_rule(out: &mut Vec<u8>, properties: usize, declared: usize) -> Result<(), AllocError>
     ensures { OnOk result
-        (out.new.items ≡ out.old.items ++ claim_written (program_of program.now) claim) }
+        (out.new.items ≡ out.old.items ++ numbered (codes "rule ") (properties + declared)) }
+{
+    let mut digits = Buffer::new();
+    out.extend_from_slice(b"rule ")?;
+    out.extend_from_slice(
+        digits
+            .format(properties as u128 + declared as u128)
+            .as_bytes(),
+    )
+}
+
+/// Appends which declaration it is.
+fn append_claim(out: &mut Vec<u8>, of: &Declared, claim: Option<Claim>) -> Result<(), AllocError>
+    requires { IsCounted of.now }
+    ensures { OnOk result
+        (out.new.items ≡ out.old.items ++ claim_written (program_of of.now.program.now) claim) }
 {
     match claim {
         None => out.extend_from_slice(b"declarations together"),
-        Some(Claim::Rule(number)) => append_numbered(out, b"rule ", number),
-        Some(Claim::Predicate(p)) => append_declaration(out, program, p),
+        Some(Claim::Rule(number)) => append_rule(out, of.properties, number),
+        Some(Claim::Predicate(p)) => append_declaration(out, of.program, p),
     }
 }
 
 /// Appends that the initial structure of this number has no opening, and which declaration it contradicts.
 fn append_initial(
     out: &mut Vec<u8>,
-    program: &Program,
+    of: &Declared,
     number: usize,
     claim: Option<Claim>,
 ) -> Result<(), AllocError>
+    requires { IsCounted of.now }
     ensures { OnOk result
-        (out.new.items ≡ out.old.items ++ initial_loss (program_of program.now) number claim) }
+        (out.new.items ≡ out.old.items ++ initial_loss (program_of of.now.program.now) number claim) }
 {
     append_numbered(out, b"initial ", number)?;
     out.extend_from_slice(b" has no opening, by ")?;
-    append_claim(out, program, claim)?;
+    append_claim(out, of, claim)?;
     out.extend_from_slice(b"\n")
 }
 
@@ -87,17 +124,18 @@ fn number_at(numbers: &[usize], place: usize) -> usize
 /// Appends the same of each, with the claim in its place.
 fn append_initials(
     out: &mut Vec<u8>,
-    program: &Program,
+    of: &Declared,
     claims: &[Option<Claim>],
     numbers: &[usize],
 ) -> Result<(), AllocError>
+    requires { IsCounted of.now }
     ensures { OnOk result (out.new.items
-        ≡ out.old.items ++ initial_losses (program_of program.now) claims.now 0 numbers.now) }
+        ≡ out.old.items ++ initial_losses (program_of of.now.program.now) claims.now 0 numbers.now) }
 {
     for place in 0..numbers.len() {
         let number = number_at(numbers, place);
         let claim = claim_at(claims, place);
-        append_initial(out, program, number, claim)?;
+        append_initial(out, of, number, claim)?;
     }
     Ok(())
 }
@@ -164,16 +202,17 @@ fn append_edges(out: &mut Vec<u8>, heads: &[Bytes], losses: &[EdgeLoss]) -> Resu
 /// Appends a line for each loss.
 fn append_losses(
     out: &mut Vec<u8>,
-    program: &Program,
+    of: &Declared,
     heads: &[Bytes],
     claims: &[Option<Claim>],
     losses: &Losses,
 ) -> Result<(), AllocError>
+    requires { IsCounted of.now }
     ensures { OnOk result (out.new.items
-        ≡ out.old.items ++ lost_lines (program_of program.now) heads.now claims.now losses.now) }
+        ≡ out.old.items ++ lost_lines (program_of of.now.program.now) heads.now claims.now losses.now) }
 {
-    append_initials(out, program, claims, losses.initial.as_slice())?;
-    append_nodes(out, &program.nodes, losses.nodes.as_slice())?;
+    append_initials(out, of, claims, losses.initial.as_slice())?;
+    append_nodes(out, &of.program.nodes, losses.nodes.as_slice())?;
     append_edges(out, heads, losses.edges.as_slice())
 }
 
@@ -181,10 +220,11 @@ fn append_losses(
 /// `edge 4 loses 3 of 5 structures, first 0  p.tvp:9  L1 Copy_Var ( y , x ) L2`, with the head of the edge;
 /// `nothing is lost` where there are none. The heads are those of the program's edges, and the claims, one
 /// for each initial structure that is lost, the declarations that these contradict: `by the declaration of
-/// x`, or `by declarations together` where there is no claim.
+/// x`, or `by declarations together` where there is no claim. Rules have the numbers that `replay` tells:
+/// those of properties come first.
 ///
 /// # Errors
-/// Want of memory.
+/// Lack of memory.
 pub(crate) fn losses_text(
     alloc: Global,
     program: &Program,
@@ -192,6 +232,7 @@ pub(crate) fn losses_text(
     claims: &[Option<Claim>],
     losses: &Losses,
 ) -> Result<Vec<u8>, AllocError>
+    requires { IsValid (program_of program.now) }
     ensures { IfOk result
         (λ text. text.items ≡ losses_text (program_of program.now) heads.now claims.now losses.now) }
 {
@@ -200,6 +241,7 @@ pub(crate) fn losses_text(
         out.extend_from_slice(b"nothing is lost\n")?;
         return Ok(out);
     }
-    append_losses(&mut out, program, heads, claims, losses)?;
+    let of = counted(alloc, program)?;
+    append_losses(&mut out, &of, heads, claims, losses)?;
     Ok(out)
 }

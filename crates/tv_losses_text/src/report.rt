@@ -3,8 +3,8 @@
 ghost use Rattle.std.specs.Prelude.{All, IfOk, IfErr};
 ghost use Rattle.tv_model.specs.Program.{program_of};
 ghost use Rattle.tv_model.specs.Valid.{IsValid};
-ghost use Rattle.tv_struct.specs.StructureForm.{IsOver};
-ghost use Rattle.tv_work.specs.Analysed.{IsWorkCause};
+ghost use Rattle.tv_structure_form.specs.StructureForm.{IsOver};
+ghost use Rattle.tv_work.specs.Analyzed.{IsWorkCause};
 ghost use Rattle.tv_work.specs.Reach.{IsReached};
 ghost use Rattle.tv_losses_text.specs.Reports.{IsLossReport};
 

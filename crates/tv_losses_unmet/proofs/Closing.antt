@@ -13,7 +13,7 @@ use Rattle.tv_rules.specs.Closing.{pred_rules}
 use Rattle.tv_rules.specs.Closing.{rules_from}
 use Rattle.tv_rules.proofs.MetByHeaps.{All-first, All-flat_map, All-found, All-mapped}
 use Rattle.tv_stable_laws.specs.Stable.{HasNoStable, IsStable, IsStableUnder}
-use Rattle.tv_struct.specs.StructureForm.{StructureForm, structure_of}
+use Rattle.tv_structure_form.specs.StructureForm.{StructureForm, structure_of}
 use Rattle.tv_losses_unmet.specs.Alone.{alone}
 use Rattle.tv_losses_unmet.specs.Unmet.{IsUnmet, UnmetLeavesNone, closed_alone, listed, rules_of_claim}
 use Rattle.tv_losses_unmet.specs.Unmet.{rules_of_pred}

@@ -8,7 +8,7 @@ use Rattle.std.proofs.lemmas.Option.{slice_get_past}
 use Rattle.tv_model.specs.Program.{ProgramForm, RuleForm, pred_of, program_of, rule_of}
 use Rattle.tv_model.specs.declared.formula.PredId.{PredId}
 use Rattle.tv_model.specs.declared.program.Program.{Program}
-use Rattle.tv_struct.specs.StructureForm.{StructureForm, structure_of}
+use Rattle.tv_structure_form.specs.StructureForm.{StructureForm, structure_of}
 use Rattle.tv_stable_laws.specs.Stable.{HasNoStable}
 use Rattle.tv_losses_unmet.specs.Tried.{IsFoundBefore, next}
 use Rattle.tv_losses_unmet.specs.Unmet.{IsFirstUnmet, IsFound, IsUnmet, MeetsBefore, MeetsEach}

@@ -13,7 +13,7 @@ use Rattle.tv_model.specs.Valid.{IsRule, IsValid, program_arities}
 use Rattle.tv_model.specs.declared.program.Program.{Program}
 use Rattle.tv_model.proofs.Parts.{arities-same}
 use Rattle.tv_rules.proofs.MetByHeaps.{All-found}
-use Rattle.tv_struct.specs.StructureForm.{StructureForm, IsOver}
+use Rattle.tv_structure_form.specs.StructureForm.{StructureForm, IsOver}
 use Rattle.tv_losses_unmet.specs.Alone.{alone, idle, is_of, kept_pred, loop_edge, preds_alone}
 use Rattle.tv_losses_unmet.specs.Alone.{rules_alone}
 use Rattle.tv_losses_unmet.specs.Unmet.{listed}

@@ -4,7 +4,7 @@ use Rattle.std.specs.List.{AllZip}
 use Rattle.tv_model.specs.Program.{ProgramForm, PredForm, RuleForm}
 use Rattle.tv_rules.specs.Closing.{closed_rules, closed_set, dropped_rule, pred_rules}
 use Rattle.tv_stable_laws.specs.Stable.{HasNoStable}
-use Rattle.tv_struct.specs.StructureForm.{StructureForm, structure_of}
+use Rattle.tv_structure_form.specs.StructureForm.{StructureForm, structure_of}
 use Rattle.tv_losses_unmet.specs.declared.claim.Claim.{Claim}
 use Rattle.tv_losses_unmet.specs.declared.claim.Claim.TheVariants.{Predicate, Rule}
 

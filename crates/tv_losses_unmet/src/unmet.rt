@@ -3,7 +3,7 @@
 ghost use Rattle.std.specs.Prelude.{◌<◌, All, IfOk, length};
 ghost use Rattle.tv_model.specs.Program.{program_of};
 ghost use Rattle.tv_model.specs.Valid.{IsValid};
-ghost use Rattle.tv_struct.specs.StructureForm.{IsOver};
+ghost use Rattle.tv_structure_form.specs.StructureForm.{IsOver};
 ghost use Rattle.tv_losses_unmet.specs.Unmet.{AreFound};
 
 use crate::asked::Asked;
@@ -16,7 +16,7 @@ use tv_struct::Structure;
 /// For each of the structures of these numbers, in order, the first declaration of the program that it
 /// contradicts alone: no structure below it is stable under what that claims, predicates before rules. None
 /// exactly where it contradicts no declaration alone. The closed rules of each declaration are made once. The
-/// only error is want of memory.
+/// only error is lack of memory.
 pub fn first_unmet_each(
     alloc: Global,
     program: &Program,

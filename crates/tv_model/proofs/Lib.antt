@@ -1,6 +1,7 @@
 -- The library of lemmas on lists, facts and the definitions of the model, for the crates above.
 pub mod Assignments
 pub mod Decided
+pub mod FreeTests
 pub mod Heads
 pub mod Lists
 pub mod Ordered

@@ -1,4 +1,5 @@
 pub mod Form
+pub mod Free
 pub mod Heap
 pub mod Laws
 pub mod Program

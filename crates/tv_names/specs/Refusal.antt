@@ -9,7 +9,7 @@ use Rattle.tv_names.specs.declared.refusal.ResolveError.TheVariants.{Memory}
 abbrev pub OrRefused : Type 0 → Type 0
 OrRefused A = Result A ResolveError
 
--- want of memory, of which the definition says nothing
+-- lack of memory, of which the definition says nothing
 abbrev pub is_memory : ResolveError → Bool
 is_memory Memory = true
 is_memory e = false

@@ -8,7 +8,7 @@ use Rattle.tv_outside.specs.Count.{Rose}
 use Rattle.tv_outside.specs.Told.{Held, HoldsName, IsLonger}
 
 -- Why a name wasn't read: a fault was counted, and on steady files the name holds nothing; or it holds more
--- than the limit; or want of memory, of which nothing is said.
+-- than the limit; or lack of memory, of which nothing is said.
 abbrev pub ReadCause : ReadError → Option Held → List ℕ → ℕ → Type 0 → ℕ → ℕ → Type 0
 ReadCause Failed told name limit steady old new = Rose old new × (steady → ¬ HoldsName told name)
 ReadCause TooLong told name limit steady old new = IsLonger told name limit

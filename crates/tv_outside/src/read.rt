@@ -18,7 +18,7 @@ pub enum ReadError {
     /// The file has more bytes than the limit allows.
     #[error("the file is too long")]
     TooLong,
-    /// Want of memory.
+    /// Lack of memory.
     #[error("out of memory")]
     Memory,
 }

@@ -40,7 +40,7 @@ pub fn one_set()
     ensures head { HasOne (λ ts (x : List ℕ × SetForm) rest. IsHead ts x.0 x.1 rest) }
 {}
 
-/// The same of declarations, and of their parts.
+/// From any place there is one declaration at most, and one of each of its parts.
 pub fn one_declaration()
     ensures signature { HasOne (λ ts (x : NameForm × List (List ℕ)) rest. IsSignature ts x.0 x.1 rest) }
     ensures properties { HasOne AreProps }
@@ -48,13 +48,14 @@ pub fn one_declaration()
     ensures row { HasOne AreDecls }
 {}
 
-/// The same of updates.
+/// From any place there is one update at most: one tree and one end.
 pub fn one_update()
     ensures single { HasOne (IsNest begins_update IsUpdate) }
     ensures row { HasOne AreUpdates }
 {}
 
-/// The same of actions and their parts. The token in front of a part tells its kind.
+/// From any place there is one action at most, and one of each of its parts. The token in front of a part
+/// tells its kind.
 pub fn one_action()
     ensures piece { HasOne IsPiece }
     ensures pieces { HasOne ArePieces }
@@ -66,7 +67,7 @@ pub fn one_action()
     ensures row { HasOne (Repeated (begins_with (codes "%action")) IsAction) }
 {}
 
-/// The same of edges.
+/// From any place there is one edge at most: one tree and one end.
 pub fn one_edge()
     ensures single { HasOne IsEdge }
     ensures row { HasOne (Repeated begins_edge IsEdge) }

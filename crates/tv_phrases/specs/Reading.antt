@@ -19,7 +19,7 @@ abbrev pub choose : {A B : Type 0} → Option A → B → (A → B) → B
 choose None none some = none
 choose (Some x) none some = some x
 
--- what an answer says of a reading: its value, or that there is none; want of memory says nothing
+-- what an answer says of a reading: its value, or that there is none; lack of memory says nothing
 abbrev pub Told : PhraseError → Type 0 → Type 0
 Told (Unexpected at) none = none
 Told Memory none = Unit {0}
@@ -28,7 +28,7 @@ abbrev pub GivesReading : {R X : Type 0} → (R → X) → Result R PhraseError 
 GivesReading view (Ok x) read = read ≡ Some (view x)
 GivesReading view (Err fault) read = Told fault (read ≡ None)
 
--- the same of an answer that is never want of memory
+-- the same of an answer that is never lack of memory
 abbrev pub Refuses : PhraseError → Type 0 → Type 0
 Refuses (Unexpected at) none = none
 Refuses Memory none = ⊥

@@ -1,6 +1,5 @@
 pub mod Deepest
 pub mod Filled
-pub mod FreeTests
 pub mod Keeping
 pub mod Linking
 pub mod Opening

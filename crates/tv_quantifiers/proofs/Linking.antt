@@ -19,10 +19,11 @@ use Rattle.tv_quantifiers.specs.declared.quantifier.Quantifier.{Quantifier}
 use Rattle.tv_quantifiers.specs.declared.runs.Level.{Level}
 use Rattle.tv_quantifiers.specs.Quantified.{turned}
 use Rattle.tv_quantifiers.specs.Runs.{under_run}
-use Rattle.tv_quantifiers.specs.Chains.{Signed, AreLinked, across, best, is_free, is_outside, is_taken}
+use Rattle.tv_model.specs.Free.{is_free}
+use Rattle.tv_quantifiers.specs.Chains.{Signed, AreLinked, across, best, is_outside, is_taken}
 use Rattle.tv_quantifiers.specs.Chains.{least_part}
 use Rattle.tv_quantifiers.specs.Chains.{parts_of, pushed}
-use Rattle.tv_quantifiers.proofs.FreeTests.{and-parts, from-free}
+use Rattle.tv_model.proofs.FreeTests.{and-parts, from-free}
 use Rattle.tv_quantifiers.proofs.Pushing.{best-alike, best-within, pushed-first}
 
 pub linked-append : (ls : List Level) (ps qs : List Signed) → AreLinked ls ps → AreLinked ls qs → AreLinked ls (ps ++ qs)

@@ -22,10 +22,11 @@ use Rattle.tv_quantifiers.specs.declared.quantifier.Quantifier.TheVariants.{Exis
 use Rattle.tv_quantifiers.specs.declared.runs.Level.{Level}
 use Rattle.tv_quantifiers.specs.Quantified.{quantified, turned}
 use Rattle.tv_quantifiers.specs.Runs.{under_run}
-use Rattle.tv_quantifiers.specs.Chains.{Signed, across, best, is_free, is_outside, is_taken}
+use Rattle.tv_model.specs.Free.{is_free}
+use Rattle.tv_quantifiers.specs.Chains.{Signed, across, best, is_outside, is_taken}
 use Rattle.tv_quantifiers.specs.Chains.{least_part}
 use Rattle.tv_quantifiers.specs.Chains.{parts_of, pushed}
-use Rattle.tv_quantifiers.proofs.FreeTests.{from-free}
+use Rattle.tv_model.proofs.FreeTests.{from-free}
 use Rattle.tv_quantifiers.proofs.Quantifying.{quantified-value, turned-twice, greatest-negated}
 
 -- ---- the least value

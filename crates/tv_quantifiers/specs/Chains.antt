@@ -8,6 +8,7 @@ use Rattle.tv_kleene.specs.Kleene.{smaller_of}
 use Rattle.tv_model.specs.Form.{Form, form_of, FZero, FOne, FAtom, FIsNew, FSame, FNot, FAnd, FOr, FIff}
 use Rattle.tv_model.specs.Form.{FCond}
 use Rattle.tv_model.specs.Form.{FExists, FForall, FClosure, height}
+use Rattle.tv_model.specs.Free.{is_free}
 use Rattle.tv_model.specs.Truth.{Assignment, put}
 use Rattle.tv_embedding_laws.specs.LogicalStructure.{LogicalStructure}
 use Rattle.tv_eval_laws.specs.Value.{value, greatest_of}
@@ -17,28 +18,6 @@ use Rattle.tv_quantifiers.specs.declared.quantifier.Quantifier.{Quantifier}
 use Rattle.tv_quantifiers.specs.declared.quantifier.Quantifier.TheVariants.{Exists, Forall}
 use Rattle.tv_quantifiers.specs.declared.runs.Level.{Level}
 use Rattle.tv_quantifiers.specs.Quantified.{turned}
-
--- whether the variable v is one of these
-abbrev pub is_among : ℕ → List ℕ → Bool
-is_among v [] = false
-is_among v (w ∷ vars) = (v == w) || is_among v vars
-
--- whether the variable v stands free in the formula
-abbrev pub is_free : ℕ → Form → Bool
-is_free v FZero = false
-is_free v FOne = false
-is_free v (FAtom p vars) = is_among v vars
-is_free v (FIsNew w) = v == w
-is_free v (FSame w u) = (v == w) || (v == u)
-is_free v (FNot f) = is_free v f
-is_free v (FAnd f g) = is_free v f || is_free v g
-is_free v (FOr f g) = is_free v f || is_free v g
-is_free v (FIff f g) = is_free v f || is_free v g
-is_free v (FCond c f g) = is_free v c || (is_free v f || is_free v g)
-is_free v (FExists w f) = not (v == w) && is_free v f
-is_free v (FForall w f) = not (v == w) && is_free v f
-is_free v (FClosure from to left right f) =
-    (v == from) || ((v == to) || (not (v == left) && (not (v == right) && is_free v f)))
 
 -- whether the formula speaks of no variable of the levels
 abbrev pub is_outside : List Level → Form → Bool

@@ -4,7 +4,8 @@
 
 ghost use Rattle.std.specs.Prelude.{◌≡◌, ◌<◌, ◌==◌, ◌∷◌, length, drop, IsTrue};
 ghost use Rattle.tv_model.specs.Form.{form_of};
-ghost use Rattle.tv_quantifiers.specs.Chains.{is_free, is_outside, is_taken, parts_of, parts_by, AreLower};
+ghost use Rattle.tv_model.specs.Free.{is_free};
+ghost use Rattle.tv_quantifiers.specs.Chains.{is_outside, is_taken, parts_of, parts_by, AreLower};
 ghost use Rattle.tv_quantifiers.specs.Chains.{IsLinked, AreLinked};
 
 use crate::{Level, Quantifier};

@@ -38,7 +38,7 @@ pub fn are_same(one: Edges<'_>, other: Edges<'_>) -> bool
         && are_same_bodies(one.body, other.body)
 }
 
-/// The same as [`is_same`], which atoms, as most bodies are, don't come to.
+/// Whether the two bodies are equal; atoms, as most bodies are, are compared at once.
 fn are_same_bodies(f: &Formula, g: &Formula) -> bool
     ensures { IsTrue result ↔ (form_of f.now ≡ form_of g.now) }
 {

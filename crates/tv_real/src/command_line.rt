@@ -38,7 +38,7 @@ pub fn standard(rt: &HostRuntime) -> Streams<RealSink<Stdout>, RealSink<Stderr>>
 /// The arguments in order, none where they can't be told as text.
 ///
 /// # Errors
-/// Want of memory, also where it kept the arguments from being told.
+/// Lack of memory, also where it kept the arguments from being told.
 pub fn arguments(alloc: Global, args: io::Result<Args>) -> Result<Vec<String>, AllocError>
     ensures { IfOk result (λ all. AreArguments args all.items) }
 {

@@ -19,7 +19,7 @@ use Rattle.tv_replay_laws.specs.declared.state.ReplayError.TheVariants as error
 use Rattle.tv_replay_laws.specs.declared.state.State.{State}
 use Rattle.tv_replay_step.specs.Stepped.{Halts}
 use Rattle.tv_replay_step.specs.declared.moved.Halt.{Halt}
-use Rattle.tv_struct.specs.StructureForm.{StructureForm, IsOver, IsStructure}
+use Rattle.tv_structure_form.specs.StructureForm.{StructureForm, IsOver, IsStructure}
 use Rattle.tv_trace.specs.declared.trace.Move.{Move}
 use Rattle.tv_two_valued.specs.TwoValued.{IsTwoValued}
 use Rattle.tv_replay.specs.Judging.{IsFaultOf, IsStateAt, program_in}

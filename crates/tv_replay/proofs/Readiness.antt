@@ -13,7 +13,7 @@ use Rattle.tv_replay_laws.specs.declared.state.State.{State}
 use Rattle.tv_replay_step.specs.Stepped.{IsMoved}
 use Rattle.tv_replay_step.specs.declared.moved.Moved.{Moved}
 use Rattle.tv_trace.specs.declared.trace.Move.{Move}
-use Rattle.tv_struct.specs.StructureForm.{StructureForm, IsStructure, IsOver, arities_of}
+use Rattle.tv_structure_form.specs.StructureForm.{StructureForm, IsStructure, IsOver, arities_of}
 use Rattle.tv_replay.specs.Judging.{CanJudge, IsHeapAt, IsStateAt, program_in}
 use Rattle.tv_replay.specs.declared.states.Judge.{Judge}
 

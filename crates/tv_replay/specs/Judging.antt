@@ -10,7 +10,7 @@ use Rattle.tv_replay_laws.specs.declared.state.ReplayError.{ReplayError}
 use Rattle.tv_replay_laws.specs.declared.state.ReplayError.TheVariants as error
 use Rattle.tv_replay_step.specs.declared.moved.Halt.{Halt}
 use Rattle.tv_replay_step.specs.declared.moved.Halt.TheVariants.{Stuck}
-use Rattle.tv_struct.specs.StructureForm.{StructureForm, IsStructure, IsOver}
+use Rattle.tv_structure_form.specs.StructureForm.{StructureForm, IsStructure, IsOver}
 use Rattle.tv_update.specs.Redefined.{AreAllDefined}
 use Rattle.tv_two_valued.specs.TwoValued.{IsTwoValued}
 use Rattle.tv_replay.specs.declared.states.Judge.{Judge}

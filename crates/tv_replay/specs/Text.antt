@@ -3,7 +3,7 @@ use Rattle.std.specs.Prelude.{ℕ, ◌+◌, List, [], ◌∷◌, ◌++◌, map, 
 use Rattle.tv_model.specs.declared.formula.PredId.{PredId}
 use Rattle.tv_model.specs.declared.program.Program.{Program}
 use Rattle.tv_model.specs.declared.program.Pred.{Pred}
-use Rattle.tv_replay_laws.specs.declared.state.Place2.{Place2}
+use Rattle.tv_replay_laws.specs.declared.state.ListedCover.{ListedCover}
 use Rattle.tv_replay_laws.specs.declared.state.State.{State}
 use Rattle.tv_replay_laws.specs.declared.state.Why.{Why}
 use Rattle.tv_replay_laws.specs.declared.state.Why.TheVariants as why
@@ -35,7 +35,7 @@ rule_text None = codes "rules ok\n"
 rule_text (Some rule) = codes "rules broken " ++ (decimal rule ++ codes "\n")
 
 -- ` none`, or ` I {..}`: the number of a structure, and a map with commas between its numbers
-abbrev pub place_text : Option Place2 → List ℕ
+abbrev pub place_text : Option ListedCover → List ℕ
 place_text None = codes " none\n"
 place_text (Some place) =
     codes " " ++ (decimal place.structure ++ (codes " {" ++ (comma_text (map decimal place.map)

@@ -7,7 +7,7 @@ ghost use Rattle.tv_model.specs.Valid.{IsValid};
 ghost use Rattle.tv_replay_laws.specs.Runs.{ShowsGivenRun, ShowsRecomputedRun};
 ghost use Rattle.tv_replay_laws.specs.States.{IsReplay};
 ghost use Rattle.tv_replay_laws.specs.Stuck.{IsReplayCause};
-ghost use Rattle.tv_struct.specs.StructureForm.{IsStructure, IsOver};
+ghost use Rattle.tv_structure_form.specs.StructureForm.{IsStructure, IsOver};
 ghost use Rattle.tv_trace.specs.Meaning.{IsMoveOn, IsTraceOn};
 ghost use Rattle.tv_two_valued.specs.TwoValued.{IsTwoValued};
 ghost use Rattle.tv_replay.specs.Judging.{CanJudge, IsFaultOf, IsHeapAt, program_in};
@@ -28,7 +28,7 @@ use tv_update::order_of;
 const MAX_INDIVIDUALS: u32 = 256;
 
 /// Why the step of that number, counted from 0, leads nowhere. A step whose number doesn't fit is told as
-/// want of memory.
+/// lack of memory.
 fn fault(number: usize, halt: Halt) -> ReplayError
     ensures { IsFaultOf number halt result }
 {

@@ -6,7 +6,7 @@ ghost use Rattle.tv_replay_laws.specs.Above.{IsFirstAbove};
 ghost use Rattle.tv_replay_laws.specs.JudgedRules.{IsFirstUnmet, judged_rules};
 ghost use Rattle.tv_replay_laws.specs.States.{IsFirstState, IsNextState, standing};
 ghost use Rattle.tv_replay_step.specs.Stepped.{Halts};
-ghost use Rattle.tv_struct.specs.StructureForm.{IsStructure, IsOver};
+ghost use Rattle.tv_structure_form.specs.StructureForm.{IsStructure, IsOver};
 ghost use Rattle.tv_trace.specs.Meaning.{IsMoveOn};
 ghost use Rattle.tv_two_valued.specs.TwoValued.{heap_of};
 ghost use Rattle.tv_replay.specs.Judging.{CanJudge, IsHeapAt, IsStateAt, program_in};
@@ -16,7 +16,7 @@ use tv_eval::Scratch;
 use tv_listing::Listing;
 use tv_model::{Program, Rules};
 use tv_replay_judge::{first_above, first_listed, first_unlike, first_unmet};
-use tv_replay_laws::{Place2, State};
+use tv_replay_laws::{ListedCover, State};
 use tv_replay_step::{Halt, Moved, next};
 use tv_struct::{Structure, Structures};
 use tv_trace::Move;
@@ -36,7 +36,7 @@ pub struct Judge<'a> {
 #[derive(Debug, Drop)]
 struct Judged {
     rule: Option<u32>,
-    listed: Option<Place2>,
+    listed: Option<ListedCover>,
 }
 
 /// What is judged of a heap at a node. The scratch is given back as it was.

@@ -7,7 +7,7 @@ ghost use Rattle.tv_replay.specs.Text.{states_text, why_name, stuck_line};
 
 use std::alloc::{AllocError, Global};
 use tv_model::{PredId, Program};
-use tv_replay_laws::{Place2, State, States, Why};
+use tv_replay_laws::{ListedCover, State, States, Why};
 use tv_tvs::{write_number, write_numbers};
 
 /// Appends the name of the node; nothing where there is no such node.
@@ -56,7 +56,7 @@ fn write_rule(out: &mut Vec<u8>, rule: Option<u32>) -> Result<(), AllocError>
     out.extend_from_slice(b"\n")
 }
 
-fn write_place(out: &mut Vec<u8>, place: &Option<Place2>) -> Result<(), AllocError>
+fn write_place(out: &mut Vec<u8>, place: &Option<ListedCover>) -> Result<(), AllocError>
     ensures { OnOk result (out.new.items ≡ out.old.items ++ place_text place.now) }
 {
     let Some(found) = place else {

@@ -19,10 +19,10 @@ use Rattle.tv_model.specs.Rules.{blank}
 use Rattle.tv_model.specs.Truth.{Truth, put, put_all}
 use Rattle.tv_model.specs.Valid.{IsOver}
 use Rattle.tv_model.proofs.Lists.{map-agreed, Contains-cases, Contains-none}
-use Rattle.tv_struct.specs.StructureForm.{StructureForm, structure_of, value_at}
+use Rattle.tv_structure_form.specs.StructureForm.{StructureForm, structure_of, value_at}
 use Rattle.tv_struct.specs.StructureRows.{unary_row, row_at}
-use Rattle.tv_struct.specs.TableForm.{AreIndividuals}
-use Rattle.tv_struct.proofs.Library.{below-range, AreIndividuals-range, All-individuals}
+use Rattle.tv_structure_form.specs.TableForm.{AreIndividuals}
+use Rattle.tv_structure_form.proofs.Library.{below-range, AreIndividuals-range, All-individuals}
 use Rattle.tv_two_valued.specs.Laws.{TellsTruthOf}
 use Rattle.tv_two_valued.specs.TwoValued.{heap_of}
 use Rattle.tv_two_valued.proofs.Heaps.{heap-told}

@@ -15,7 +15,7 @@ use Rattle.tv_model.specs.Valid.{IsFormula, IsFormulaOver, IsHead, IsPred, IsRul
 use Rattle.tv_model.specs.declared.program.Rule.{Rule}
 use Rattle.tv_model.proofs.Lists.{All-from_contains, slice_get-contains}
 use Rattle.tv_rules.proofs.Plain.{properties-each}
-use Rattle.tv_struct.specs.StructureForm.{StructureForm, arities_of}
+use Rattle.tv_structure_form.specs.StructureForm.{StructureForm, arities_of}
 use Rattle.tv_replay_laws.specs.JudgedRules.{rules_of_properties}
 use Rattle.tv_replay_judge.specs.Ready.{IsReadyToEvaluate}
 use Rattle.tv_replay_judge.specs.Trying.{CanTell, CanJudge}

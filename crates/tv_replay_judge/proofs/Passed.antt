@@ -18,8 +18,8 @@ use Rattle.tv_eval.specs.Along.{values_along}
 use Rattle.tv_eval.specs.AssignmentForm.{IsAssigned, assignment_of, individual_for}
 use Rattle.tv_eval.specs.Formulas.{AreAssigned}
 use Rattle.tv_eval.specs.ScratchForm.{ScratchForm}
-use Rattle.tv_struct.specs.StructureForm.{StructureForm, structure_of}
-use Rattle.tv_struct.proofs.Library.{Contains-range}
+use Rattle.tv_structure_form.specs.StructureForm.{StructureForm, structure_of}
+use Rattle.tv_structure_form.proofs.Library.{Contains-range}
 use Rattle.tv_two_valued.specs.Laws.{TellsTruthOf}
 use Rattle.tv_two_valued.specs.TwoValued.{heap_of}
 use Rattle.tv_two_valued.proofs.Truths.{from-assigned, truth_is_told}

@@ -9,8 +9,8 @@ use Rattle.std.proofs.lemmas.Option.{slice_get-get_or, get_or_from_slice_get}
 use Rattle.tv_embedding_laws.specs.Embedding.{Embeds, IsEmbedded}
 use Rattle.tv_embedding_laws.specs.LogicalStructure.{LogicalStructure, heap_structure}
 use Rattle.tv_kleene.specs.Kleene.{LiesUnder}
-use Rattle.tv_struct.specs.StructureForm.{StructureForm, IsStructure, structure_of}
-use Rattle.tv_struct.proofs.Library.{below-range}
+use Rattle.tv_structure_form.specs.StructureForm.{StructureForm, IsStructure, structure_of}
+use Rattle.tv_structure_form.proofs.Library.{below-range}
 use Rattle.tv_two_valued.specs.TwoValued.{IsTwoValued, heap_of}
 use Rattle.tv_two_valued.proofs.Truths.{heap-value}
 use Rattle.tv_replay_laws.specs.Above.{IsNotAbove, IsFirstAbove}

@@ -21,7 +21,7 @@ use Rattle.tv_model.specs.Valid.{IsValid, IsPred, IsKind}
 use Rattle.tv_model.proofs.Lists.{slice_get-contains}
 use Rattle.tv_model.specs.declared.program.Pred.{Pred}
 use Rattle.tv_replay_laws.specs.Judged.{IsFirst}
-use Rattle.tv_struct.specs.StructureForm.{StructureForm, arities_of}
+use Rattle.tv_structure_form.specs.StructureForm.{StructureForm, arities_of}
 use Rattle.tv_replay_judge.specs.Ready.{IsReadyToEvaluate}
 use Rattle.tv_replay_judge.specs.Same.{HasSameValues, IsSameAt, HasVariables, CanCompareKind}
 use Rattle.tv_replay_judge.proofs.Judging.{can-tell}

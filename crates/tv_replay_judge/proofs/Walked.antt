@@ -16,12 +16,12 @@ use Rattle.tv_model.specs.Truth.{Assignment, put}
 use Rattle.tv_model.specs.Valid.{IsFormulaOver}
 use Rattle.tv_model.specs.declared.formula.Var.{Var}
 use Rattle.tv_model.proofs.Lists.{pushed-cases, Contains-none, Contains-cases}
-use Rattle.tv_struct.specs.StructureForm.{StructureForm, IsStructure, arities_of}
+use Rattle.tv_structure_form.specs.StructureForm.{StructureForm, IsStructure, arities_of}
 use Rattle.tv_two_valued.specs.TwoValued.{heap_of}
 use Rattle.tv_two_valued.proofs.Heaps.{heap-told}
 use Rattle.tv_two_valued.proofs.Truths.{from-assigned}
 use Rattle.tv_replay_judge.specs.Trying.{ImplicationForm, IsFreeIn, ArePlaced, IsCheckStart, IsMetFrom}
-use Rattle.tv_replay_judge.specs.Trying.{IsMetUnder, StaysBound}
+use Rattle.tv_replay_judge.specs.Trying.{IsMetUnder}
 use Rattle.tv_replay_judge.proofs.Tried.{met-none, met-each}
 
 -- ---- variables, one after the other
@@ -106,9 +106,6 @@ walk-on size v u rest t old new walk lt with_u = record {
 }
 
 -- ---- individuals, one after the other
-
-pub stays-on : (s : StructureForm) (a b c : Evaluator) → StaysBound s a b → StaysBound s b c → StaysBound s a c
-stays-on s a b c one two = record { bound = two.bound; structure = two.structure; room = two.room ∙ one.room }
 
 module _ (s : StructureForm) (is : IsStructure s) (t : ImplicationForm) (v : ℕ) (rest : List ℕ) (a : Assignment) (here : IsFreeIn v t) where
   pub tried-all : (n : ℕ) → s.size ≤ n → ((k : ℕ) → k < n → IsMetFrom (heap_of s) t rest (put a v k)) → IsTrue true ↔ IsMetFrom (heap_of s) t (v ∷ rest) a

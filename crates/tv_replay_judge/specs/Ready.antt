@@ -3,7 +3,7 @@ use Rattle.std.specs.Prelude.{◌≡◌, map}
 use Rattle.tv_eval.specs.ScratchForm.{ScratchForm, IsMadeFor}
 use Rattle.tv_model.specs.Program.{ProgramForm}
 use Rattle.tv_model.specs.Valid.{IsValid}
-use Rattle.tv_struct.specs.StructureForm.{StructureForm, IsStructure, arities_of}
+use Rattle.tv_structure_form.specs.StructureForm.{StructureForm, IsStructure, arities_of}
 use Rattle.tv_two_valued.specs.TwoValued.{IsTwoValued}
 
 -- the structure stands for a heap over the predicates of the program, which is valid, and there is room to

@@ -7,9 +7,9 @@ use Rattle.tv_model.specs.Rules.{blank}
 use Rattle.tv_model.specs.Step.{update_for}
 use Rattle.tv_model.specs.Truth.{put_all}
 use Rattle.tv_model.specs.Valid.{IsVariable, IsOver}
-use Rattle.tv_struct.specs.StructureForm.{StructureForm, structure_of, value_at}
+use Rattle.tv_structure_form.specs.StructureForm.{StructureForm, structure_of, value_at}
 use Rattle.tv_struct.specs.StructureRows.{HasArity}
-use Rattle.tv_struct.specs.TableForm.{AreIndividuals}
+use Rattle.tv_structure_form.specs.TableForm.{AreIndividuals}
 use Rattle.tv_eval_laws.specs.Value.{value}
 use Rattle.tv_replay_judge.specs.Trying.{CanTell}
 

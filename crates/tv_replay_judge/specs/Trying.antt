@@ -1,9 +1,7 @@
 -- How a rule is tried in a heap: its variables get individuals one after the other.
 use Rattle.std.specs.Prelude.{ℕ, ◌≡◌, ◌≢◌, ◌<◌, ◌⊎◌, List, length, Option, All, Contains, slice_index_or}
 use Rattle.tv_eval.specs.AssignmentForm.{IsAssigned}
-use Rattle.tv_eval.specs.Bound.{IsBound, bound_structure, bound_room}
 use Rattle.tv_eval.specs.ScratchForm.{ScratchForm, HasScratchFor}
-use Rattle.tv_eval.specs.declared.evaluator.Evaluator.{Evaluator}
 use Rattle.tv_kleene.specs.declared.K3.{K3}
 use Rattle.tv_kleene.specs.declared.K3.TheVariants.{No, Yes}
 use Rattle.tv_model.specs.Form.{Form, form_of, IsFree}
@@ -12,7 +10,7 @@ use Rattle.tv_model.specs.Program.{RuleForm}
 use Rattle.tv_model.specs.Rules.{head_formula}
 use Rattle.tv_model.specs.Truth.{Assignment, Truth}
 use Rattle.tv_model.specs.Valid.{IsFormulaOver}
-use Rattle.tv_struct.specs.StructureForm.{StructureForm, IsStructure, arities_of}
+use Rattle.tv_structure_form.specs.StructureForm.{StructureForm, IsStructure, arities_of}
 use Rattle.tv_two_valued.specs.TwoValued.{IsTwoValued}
 use Rattle.tv_replay_judge.specs.declared.trial.Implication.{Implication}
 
@@ -85,9 +83,3 @@ IsMetFrom h t rest a =
 pub record IsRowOf (count : ℕ) (P : ℕ → Type 0) (row : List K3) : Type 0 where
   pub size : length row ≡ count
   pub passed : (u : ℕ) → u < count → slice_index_or row u No ≢ Yes → P u
-
--- the evaluator is still bound to the structure, and has its room
-pub record StaysBound (s : StructureForm) (old now : Evaluator) : Type 0 where
-  pub bound : IsBound now
-  pub structure : bound_structure now ≡ s
-  pub room : bound_room now ≡ bound_room old

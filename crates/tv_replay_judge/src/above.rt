@@ -2,14 +2,14 @@
 
 ghost use Rattle.std.specs.Prelude.{◌≡◌, ◌<◌, ◌^◌, All, IfOk, length};
 ghost use Rattle.tv_listing.specs.ListingForm.{at_node};
-ghost use Rattle.tv_struct.specs.StructureForm.{IsStructure, arities_of};
+ghost use Rattle.tv_structure_form.specs.StructureForm.{IsStructure, arities_of};
 ghost use Rattle.tv_two_valued.specs.TwoValued.{IsTwoValued};
 ghost use Rattle.tv_replay_laws.specs.Above.{IsFirstAbove};
 
 use std::alloc::{AllocError, Global};
 use tv_embed::find;
 use tv_listing::Listing;
-use tv_replay_laws::Place2;
+use tv_replay_laws::ListedCover;
 use tv_struct::Structure;
 
 /// The first of the structures in which the heap that `s` stands for embeds, with its least map; none where
@@ -18,7 +18,7 @@ pub fn first_above(
     alloc: Global,
     s: &Structure,
     structures: &[Structure],
-) -> Result<Option<Place2>, AllocError>
+) -> Result<Option<ListedCover>, AllocError>
     requires heap { IsStructure s.now × IsTwoValued s.now }
     requires vocabulary { All (λ t. arities_of s.now ≡ arities_of t) structures.now }
     requires few { length structures.now < 2 ^ 32 }
@@ -26,7 +26,7 @@ pub fn first_above(
 {
     for (place, t) in structures.iter().enumerate() {
         if let Some(map) = find(alloc, s, t)? {
-            return Ok(Some(Place2 {
+            return Ok(Some(ListedCover {
                 structure: place as u32,
                 map,
             }));
@@ -42,7 +42,7 @@ pub fn first_listed(
     s: &Structure,
     listing: &Listing,
     node: u32,
-) -> Result<Option<Place2>, AllocError>
+) -> Result<Option<ListedCover>, AllocError>
     requires heap { IsStructure s.now × IsTwoValued s.now }
     requires node { node < length listing.now }
     requires vocabulary { All (λ t. arities_of s.now ≡ arities_of t) (at_node listing.now node) }
@@ -51,7 +51,7 @@ pub fn first_listed(
 {
     for place in 0..listing.count(node) {
         if let Some(map) = find(alloc, s, listing.at(node, place))? {
-            return Ok(Some(Place2 {
+            return Ok(Some(ListedCover {
                 structure: place as u32,
                 map,
             }));

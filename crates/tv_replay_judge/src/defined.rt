@@ -2,7 +2,7 @@
 
 ghost use Rattle.std.specs.Prelude.{◌≡◌, ◌↔◌, ◌∷◌, [], IsTrue, length, map};
 ghost use Rattle.std.specs.Option.{option_map};
-ghost use Rattle.tv_eval.specs.Bound.{IsBound, bound_structure, bound_room};
+ghost use Rattle.tv_eval.specs.Bound.{bound_structure, bound_room};
 ghost use Rattle.tv_model.specs.Form.{form_of, vars_of};
 ghost use Rattle.tv_model.specs.Program.{kind_of, pred_of, program_of};
 ghost use Rattle.tv_struct.specs.StructureRows.{HasArity};
@@ -10,7 +10,6 @@ ghost use Rattle.tv_two_valued.specs.TwoValued.{heap_of};
 ghost use Rattle.tv_replay_laws.specs.Judged.{IsAsDefined, IsFirst};
 ghost use Rattle.tv_replay_judge.specs.Ready.{IsReadyToEvaluate};
 ghost use Rattle.tv_replay_judge.specs.Same.{CanCompare, CanCompareKind, HasValuesOf};
-ghost use Rattle.tv_replay_judge.specs.Trying.{StaysBound};
 
 use crate::values::are_equal;
 use tv_eval::{Assignment, Evaluator, Scratch};
@@ -20,17 +19,16 @@ use tv_struct::{Structure, Table, Tuple};
 /// Whether the binary predicate has the values of the formula at all pairs, put for the variables.
 fn has_values_at_pairs<'a>(
     s: &Structure,
-    evaluator: &mut Evaluator<'a>,
+    evaluator: &mut Evaluator<'_, 'a>,
     p: PredId,
     v: Var,
     w: Var,
     f: &'a Formula,
 ) -> bool
-    requires bound { IsBound evaluator.old }
     requires structure { bound_structure evaluator.old ≡ s.now }
     requires can { CanCompare s.now (bound_room evaluator.old) p.0 (v.0 ∷ w.0 ∷ []) (form_of f.now) }
     ensures same { IsTrue result ↔ HasValuesOf s.now p.0 (v.0 ∷ w.0 ∷ []) (form_of f.now) }
-    ensures stays { StaysBound s.now evaluator.old evaluator.new }
+    ensures kept { evaluator.new ≡ evaluator.old }
 {
     for u in 0..s.size() {
         let row = evaluator.row(f, w, &Assignment::new().with(v, u));
@@ -44,16 +42,15 @@ fn has_values_at_pairs<'a>(
 /// Whether the predicate has the values of the formula at all tuples, put for the variables.
 fn has_values<'a>(
     s: &Structure,
-    evaluator: &mut Evaluator<'a>,
+    evaluator: &mut Evaluator<'_, 'a>,
     p: PredId,
     vars: Terms,
     f: &'a Formula,
 ) -> bool
-    requires bound { IsBound evaluator.old }
     requires structure { bound_structure evaluator.old ≡ s.now }
     requires can { CanCompare s.now (bound_room evaluator.old) p.0 (vars_of vars) (form_of f.now) }
     ensures same { IsTrue result ↔ HasValuesOf s.now p.0 (vars_of vars) (form_of f.now) }
-    ensures stays { StaysBound s.now evaluator.old evaluator.new }
+    ensures kept { evaluator.new ≡ evaluator.old }
 {
     let none = Assignment::new();
     match vars {
@@ -66,16 +63,15 @@ fn has_values<'a>(
 /// Whether the predicate holds exactly of the tuples of which its definition is true.
 fn is_as_defined<'a>(
     s: &Structure,
-    evaluator: &mut Evaluator<'a>,
+    evaluator: &mut Evaluator<'_, 'a>,
     p: PredId,
     pred: &'a Pred,
 ) -> bool
-    requires bound { IsBound evaluator.old }
     requires structure { bound_structure evaluator.old ≡ s.now }
     requires can { CanCompareKind s.now (bound_room evaluator.old) p.0 pred.now.arity
         (kind_of pred.now.kind) }
     ensures same { IsTrue result ↔ IsAsDefined (heap_of s.now) p.0 (pred_of pred.now) }
-    ensures stays { StaysBound s.now evaluator.old evaluator.new }
+    ensures kept { evaluator.new ≡ evaluator.old }
 {
     match &pred.kind {
         Kind::Core => true,
@@ -87,14 +83,13 @@ fn is_as_defined<'a>(
 fn first_of<'a>(
     program: &'a Program,
     s: &Structure,
-    evaluator: &mut Evaluator<'a>,
+    evaluator: &mut Evaluator<'_, 'a>,
 ) -> Option<PredId>
-    requires bound { IsBound evaluator.old }
     requires structure { bound_structure evaluator.old ≡ s.now }
     requires ready { IsReadyToEvaluate (program_of program.now) s.now (bound_room evaluator.old) }
     ensures first { IsFirst (program_of program.now).preds (IsAsDefined (heap_of s.now))
         (option_map (λ p. p.0) result) }
-    ensures stays { StaysBound s.now evaluator.old evaluator.new }
+    ensures kept { evaluator.new ≡ evaluator.old }
 {
     for (number, pred) in program.vocab.preds.as_slice().iter().enumerate() {
         let p = PredId(number as u32);

@@ -6,7 +6,7 @@ ghost use Rattle.tv_model.specs.Form.{vars_of};
 ghost use Rattle.tv_model.specs.Program.{action_of, kind_of, pred_of, program_of, update_of};
 ghost use Rattle.tv_model.specs.Step.{update_for};
 ghost use Rattle.tv_model.specs.Valid.{IsValid};
-ghost use Rattle.tv_struct.specs.StructureForm.{IsOver, IsStructure};
+ghost use Rattle.tv_structure_form.specs.StructureForm.{IsOver, IsStructure};
 ghost use Rattle.tv_struct.specs.StructureRows.{HasArity};
 ghost use Rattle.tv_replay_laws.specs.Judged.{IsFirst};
 ghost use Rattle.tv_replay_judge.specs.Same.{HasSameValues, HasVariables, IsSameAt};

@@ -5,12 +5,12 @@
 ghost use Rattle.std.specs.Prelude.{◌≡◌, ◌↔◌, ◌<◌, ℕ, [], ◌∷◌, IsTrue, IsFalse, Contains};
 ghost use Rattle.tv_coerce_members.specs.Members.{numbers_of};
 ghost use Rattle.tv_eval.specs.AssignmentForm.{assignment_of};
-ghost use Rattle.tv_eval.specs.Bound.{IsBound, bound_structure, bound_room};
+ghost use Rattle.tv_eval.specs.Bound.{bound_structure, bound_room};
 ghost use Rattle.tv_model.specs.Form.{form_of, IsFree};
 ghost use Rattle.tv_model.specs.Truth.{Truth, put};
 ghost use Rattle.tv_two_valued.specs.TwoValued.{heap_of};
 ghost use Rattle.tv_replay_judge.specs.Trying.{ArePlaced, CanTell, CanTry, IsGranted, IsMetFrom, IsMetUnder};
-ghost use Rattle.tv_replay_judge.specs.Trying.{IsRowOf, IsRuledOut, IsCheckStart, StaysBound};
+ghost use Rattle.tv_replay_judge.specs.Trying.{IsRowOf, IsRuledOut, IsCheckStart};
 ghost use Rattle.tv_replay_judge.specs.Trying.{implication_of};
 
 use tv_eval::{Assignment, Evaluator};
@@ -45,18 +45,17 @@ fn is_settled(f: &Formula, rest: &[Var]) -> bool
 /// seen.
 fn is_granted<'a>(
     s: &Structure,
-    evaluator: &mut Evaluator<'a>,
+    evaluator: &mut Evaluator<'_, 'a>,
     f: &'a Formula,
     rest: &[Var],
     a: &Assignment,
 ) -> bool
-    requires bound { IsBound evaluator.old }
     requires structure { bound_structure evaluator.old ≡ s.now }
     requires can { CanTell s.now (bound_room evaluator.old) (form_of f.now) }
     requires placed { ArePlaced s.now.size (numbers_of rest.now) a.now (form_of f.now) }
     ensures granted { IsTrue result
         → IsGranted (heap_of s.now) (numbers_of rest.now) (assignment_of a.now) (form_of f.now) }
-    ensures stays { StaysBound s.now evaluator.old evaluator.new }
+    ensures same { evaluator.new ≡ evaluator.old }
 {
     is_settled(f, rest) && holds(evaluator, f, a)
 }
@@ -64,18 +63,17 @@ fn is_granted<'a>(
 /// Whether the formula may be true once the variables that are left stand for individuals.
 fn may_hold_whole<'a>(
     s: &Structure,
-    evaluator: &mut Evaluator<'a>,
+    evaluator: &mut Evaluator<'_, 'a>,
     f: &'a Formula,
     rest: &[Var],
     a: &Assignment,
 ) -> bool
-    requires bound { IsBound evaluator.old }
     requires structure { bound_structure evaluator.old ≡ s.now }
     requires can { CanTell s.now (bound_room evaluator.old) (form_of f.now) }
     requires placed { ArePlaced s.now.size (numbers_of rest.now) a.now (form_of f.now) }
     ensures out { IsFalse result
         → IsRuledOut (heap_of s.now) (numbers_of rest.now) (assignment_of a.now) (form_of f.now) }
-    ensures stays { StaysBound s.now evaluator.old evaluator.new }
+    ensures same { evaluator.new ≡ evaluator.old }
 {
     !is_settled(f, rest) || holds(evaluator, f, a)
 }
@@ -83,18 +81,17 @@ fn may_hold_whole<'a>(
 /// Whether each conjunct of the formula may be true once the variables that are left stand for individuals.
 fn may_hold<'a>(
     s: &Structure,
-    evaluator: &mut Evaluator<'a>,
+    evaluator: &mut Evaluator<'_, 'a>,
     f: &'a Formula,
     rest: &[Var],
     a: &Assignment,
 ) -> bool
-    requires bound { IsBound evaluator.old }
     requires structure { bound_structure evaluator.old ≡ s.now }
     requires can { CanTell s.now (bound_room evaluator.old) (form_of f.now) }
     requires placed { ArePlaced s.now.size (numbers_of rest.now) a.now (form_of f.now) }
     ensures out { IsFalse result
         → IsRuledOut (heap_of s.now) (numbers_of rest.now) (assignment_of a.now) (form_of f.now) }
-    ensures stays { StaysBound s.now evaluator.old evaluator.new }
+    ensures same { evaluator.new ≡ evaluator.old }
 {
     match f {
         Formula::And(g, h) => {
@@ -113,27 +110,33 @@ fn is_last(f: &Formula, v: Var, rest: &[Var]) -> bool
     free(f, v) && is_settled(f, rest)
 }
 
+/// Whose turn it is in the walk: a variable, those that are left behind it, and what the others stand for.
+#[derive(Clone, Copy)]
+pub(crate) struct Turn<'r, 'p> {
+    pub v: Var,
+    pub rest: &'r [Var],
+    pub a: &'p Assignment,
+}
+
 /// Where the formula may be true, by the individuals that the variable may stand for: `Yes` wherever it may.
 fn row_whole<'a>(
     s: &Structure,
-    evaluator: &mut Evaluator<'a>,
+    evaluator: &mut Evaluator<'_, 'a>,
     f: &'a Formula,
-    v: Var,
-    rest: &[Var],
-    a: &Assignment,
+    turn: &Turn<'_, '_>,
 ) -> Row
-    requires bound { IsBound evaluator.old }
     requires structure { bound_structure evaluator.old ≡ s.now }
     requires can { CanTell s.now (bound_room evaluator.old) (form_of f.now) }
-    requires variable { v.0 < 32 }
-    requires placed { ArePlaced s.now.size (v.0 ∷ numbers_of rest.now) a.now (form_of f.now) }
+    requires variable { turn.now.v.0 < 32 }
+    requires placed { ArePlaced s.now.size (turn.now.v.0 ∷ numbers_of turn.now.rest.now) turn.now.a.now
+        (form_of f.now) }
     ensures row { IsRowOf s.now.size
-        (λ u. IsRuledOut (heap_of s.now) (numbers_of rest.now) (put (assignment_of a.now) v.0 u)
-        (form_of f.now)) result }
-    ensures stays { StaysBound s.now evaluator.old evaluator.new }
+        (λ u. IsRuledOut (heap_of s.now) (numbers_of turn.now.rest.now)
+        (put (assignment_of turn.now.a.now) turn.now.v.0 u) (form_of f.now)) result }
+    ensures same { evaluator.new ≡ evaluator.old }
 {
-    if is_last(f, v, rest) {
-        evaluator.row(f, v, a)
+    if is_last(f, turn.v, turn.rest) {
+        evaluator.row(f, turn.v, turn.a)
     } else {
         Row::of(s.size(), K3::Yes)
     }
@@ -142,53 +145,49 @@ fn row_whole<'a>(
 /// Where each conjunct of the formula may be true.
 fn body_row<'a>(
     s: &Structure,
-    evaluator: &mut Evaluator<'a>,
+    evaluator: &mut Evaluator<'_, 'a>,
     f: &'a Formula,
-    v: Var,
-    rest: &[Var],
-    a: &Assignment,
+    turn: &Turn<'_, '_>,
 ) -> Row
-    requires bound { IsBound evaluator.old }
     requires structure { bound_structure evaluator.old ≡ s.now }
     requires can { CanTell s.now (bound_room evaluator.old) (form_of f.now) }
-    requires variable { v.0 < 32 }
-    requires placed { ArePlaced s.now.size (v.0 ∷ numbers_of rest.now) a.now (form_of f.now) }
+    requires variable { turn.now.v.0 < 32 }
+    requires placed { ArePlaced s.now.size (turn.now.v.0 ∷ numbers_of turn.now.rest.now) turn.now.a.now
+        (form_of f.now) }
     ensures row { IsRowOf s.now.size
-        (λ u. IsRuledOut (heap_of s.now) (numbers_of rest.now) (put (assignment_of a.now) v.0 u)
-        (form_of f.now)) result }
-    ensures stays { StaysBound s.now evaluator.old evaluator.new }
+        (λ u. IsRuledOut (heap_of s.now) (numbers_of turn.now.rest.now)
+        (put (assignment_of turn.now.a.now) turn.now.v.0 u) (form_of f.now)) result }
+    ensures same { evaluator.new ≡ evaluator.old }
 {
     match f {
         Formula::And(g, h) => {
-            let left = body_row(s, evaluator, g, v, rest, a);
-            let right = body_row(s, evaluator, h, v, rest, a);
+            let left = body_row(s, evaluator, g, turn);
+            let right = body_row(s, evaluator, h, turn);
             left.and(&right)
         }
-        _ => row_whole(s, evaluator, f, v, rest, a),
+        _ => row_whole(s, evaluator, f, turn),
     }
 }
 
 /// Where the formula may be false, by the individuals that the variable may stand for: `Yes` wherever it may.
 fn lacking_row<'a>(
     s: &Structure,
-    evaluator: &mut Evaluator<'a>,
+    evaluator: &mut Evaluator<'_, 'a>,
     f: &'a Formula,
-    v: Var,
-    rest: &[Var],
-    a: &Assignment,
+    turn: &Turn<'_, '_>,
 ) -> Row
-    requires bound { IsBound evaluator.old }
     requires structure { bound_structure evaluator.old ≡ s.now }
     requires can { CanTell s.now (bound_room evaluator.old) (form_of f.now) }
-    requires variable { v.0 < 32 }
-    requires placed { ArePlaced s.now.size (v.0 ∷ numbers_of rest.now) a.now (form_of f.now) }
+    requires variable { turn.now.v.0 < 32 }
+    requires placed { ArePlaced s.now.size (turn.now.v.0 ∷ numbers_of turn.now.rest.now) turn.now.a.now
+        (form_of f.now) }
     ensures row { IsRowOf s.now.size
-        (λ u. IsGranted (heap_of s.now) (numbers_of rest.now) (put (assignment_of a.now) v.0 u)
-        (form_of f.now)) result }
-    ensures stays { StaysBound s.now evaluator.old evaluator.new }
+        (λ u. IsGranted (heap_of s.now) (numbers_of turn.now.rest.now)
+        (put (assignment_of turn.now.a.now) turn.now.v.0 u) (form_of f.now)) result }
+    ensures same { evaluator.new ≡ evaluator.old }
 {
-    if is_last(f, v, rest) {
-        evaluator.row(f, v, a).not()
+    if is_last(f, turn.v, turn.rest) {
+        evaluator.row(f, turn.v, turn.a).not()
     } else {
         Row::of(s.size(), K3::Yes)
     }
@@ -197,27 +196,25 @@ fn lacking_row<'a>(
 /// The individuals that the variable has to be tried with: those at which the rule may be broken.
 fn places_for<'a>(
     s: &Structure,
-    evaluator: &mut Evaluator<'a>,
+    evaluator: &mut Evaluator<'_, 'a>,
     trial: &Implication<'a>,
-    v: Var,
-    rest: &[Var],
-    a: &Assignment,
+    turn: &Turn<'_, '_>,
 ) -> Row
-    requires bound { IsBound evaluator.old }
     requires structure { bound_structure evaluator.old ≡ s.now }
     requires ready { CanTry s.now (bound_room evaluator.old) (implication_of trial.now) }
-    requires variable { v.0 < 32 }
-    requires walk { IsCheckStart s.now.size (implication_of trial.now) (v.0 ∷ numbers_of rest.now) a.now }
+    requires variable { turn.now.v.0 < 32 }
+    requires walk { IsCheckStart s.now.size (implication_of trial.now)
+        (turn.now.v.0 ∷ numbers_of turn.now.rest.now) turn.now.a.now }
     ensures row { IsRowOf s.now.size
-        (λ u. IsMetFrom (heap_of s.now) (implication_of trial.now) (numbers_of rest.now)
-        (put (assignment_of a.now) v.0 u)) result }
-    ensures stays { StaysBound s.now evaluator.old evaluator.new }
+        (λ u. IsMetFrom (heap_of s.now) (implication_of trial.now) (numbers_of turn.now.rest.now)
+        (put (assignment_of turn.now.a.now) turn.now.v.0 u)) result }
+    ensures same { evaluator.new ≡ evaluator.old }
 {
-    let body = body_row(s, evaluator, trial.body, v, rest, a);
+    let body = body_row(s, evaluator, trial.body, turn);
     if !body.has_yes() {
         return body;
     }
-    let lacking = lacking_row(s, evaluator, trial.head, v, rest, a);
+    let lacking = lacking_row(s, evaluator, trial.head, turn);
     body.and(&lacking)
 }
 
@@ -226,17 +223,16 @@ fn places_for<'a>(
 /// Whether the head is true, or the body isn't.
 fn is_met<'a>(
     s: &Structure,
-    evaluator: &mut Evaluator<'a>,
+    evaluator: &mut Evaluator<'_, 'a>,
     trial: &Implication<'a>,
     a: &Assignment,
 ) -> bool
-    requires bound { IsBound evaluator.old }
     requires structure { bound_structure evaluator.old ≡ s.now }
     requires ready { CanTry s.now (bound_room evaluator.old) (implication_of trial.now) }
     requires walk { IsCheckStart s.now.size (implication_of trial.now) [] a.now }
     ensures met { IsTrue result
         ↔ IsMetUnder (heap_of s.now) (implication_of trial.now) (assignment_of a.now) }
-    ensures stays { StaysBound s.now evaluator.old evaluator.new }
+    ensures same { evaluator.new ≡ evaluator.old }
 {
     if holds(evaluator, trial.body, a) {
         holds(evaluator, trial.head, a)
@@ -248,23 +244,23 @@ fn is_met<'a>(
 /// Whether the rule is met however the variables that are left get individuals.
 fn is_met_from<'a>(
     s: &Structure,
-    evaluator: &mut Evaluator<'a>,
+    evaluator: &mut Evaluator<'_, 'a>,
     trial: &Implication<'a>,
     rest: &[Var],
     a: &Assignment,
 ) -> bool
-    requires bound { IsBound evaluator.old }
     requires structure { bound_structure evaluator.old ≡ s.now }
     requires ready { CanTry s.now (bound_room evaluator.old) (implication_of trial.now) }
     requires walk { IsCheckStart s.now.size (implication_of trial.now) (numbers_of rest.now) a.now }
     ensures met { IsTrue result
         ↔ IsMetFrom (heap_of s.now) (implication_of trial.now) (numbers_of rest.now) (assignment_of a.now) }
-    ensures stays { StaysBound s.now evaluator.old evaluator.new }
+    ensures same { evaluator.new ≡ evaluator.old }
 {
     match rest {
         [] => is_met(s, evaluator, trial, a),
         [v, rest @ ..] => {
-            let places = places_for(s, evaluator, trial, *v, rest, a);
+            let turn = Turn { v: *v, rest, a };
+            let places = places_for(s, evaluator, trial, &turn);
             let mut from = 0;
             while let Some(u) = places.next_yes(from) {
                 if !is_met_from(s, evaluator, trial, rest, &a.with(*v, u)) {
@@ -277,21 +273,20 @@ fn is_met_from<'a>(
     }
 }
 
-/// The same, where no variable of the rule stands for an individual yet.
+/// Whether the rule is met under all assignments, where none of its variables stands for an individual yet.
 pub(crate) fn is_met_by_all<'a>(
     s: &Structure,
-    evaluator: &mut Evaluator<'a>,
+    evaluator: &mut Evaluator<'_, 'a>,
     trial: &Implication<'a>,
     vars: &[Var],
     a: &Assignment,
 ) -> bool
-    requires bound { IsBound evaluator.old }
     requires structure { bound_structure evaluator.old ≡ s.now }
     requires ready { CanTry s.now (bound_room evaluator.old) (implication_of trial.now) }
     requires walk { IsCheckStart s.now.size (implication_of trial.now) (numbers_of vars.now) a.now }
     ensures met { IsTrue result
         ↔ IsMetFrom (heap_of s.now) (implication_of trial.now) (numbers_of vars.now) (assignment_of a.now) }
-    ensures stays { StaysBound s.now evaluator.old evaluator.new }
+    ensures same { evaluator.new ≡ evaluator.old }
 {
     if !may_hold(s, evaluator, trial.body, vars, a) {
         return true;

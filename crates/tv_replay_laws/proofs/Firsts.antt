@@ -16,12 +16,12 @@ use Rattle.tv_model.specs.Heap.{Heap}
 use Rattle.tv_model.specs.Program.{PredForm, RuleForm}
 use Rattle.tv_model.specs.Rules.{MeetsRule}
 use Rattle.tv_model.proofs.Lists.{Contains-here, Contains-there, slice_get-contains}
-use Rattle.tv_struct.specs.StructureForm.{StructureForm, IsStructure, structure_of}
+use Rattle.tv_structure_form.specs.StructureForm.{StructureForm, IsStructure, structure_of}
 use Rattle.tv_two_valued.specs.TwoValued.{IsTwoValued, heap_of}
 use Rattle.tv_replay_laws.specs.Above.{IsFirstAbove, IsNotAbove}
 use Rattle.tv_replay_laws.specs.Judged.{IsFirst}
 use Rattle.tv_replay_laws.specs.JudgedRules.{IsFirstUnmet}
-use Rattle.tv_replay_laws.specs.declared.state.Place2.{Place2}
+use Rattle.tv_replay_laws.specs.declared.state.ListedCover.{ListedCover}
 use Rattle.tv_replay_laws.proofs.Named.{embeds-heap}
 
 -- the least number of which it holds; none where it holds of none
@@ -105,22 +105,22 @@ le-both (x ∷ xs) (y ∷ ys) one two = at (le-both xs ys) (cases_lt x y) (cases
 abbrev IsAboveAt : StructureForm → List StructureForm → ℕ → Type 0
 IsAboveAt s ts n = (t : StructureForm) × (slice_get ts n ≡ Some t) × IsHeapOf (heap_of s) (structure_of t)
 
-pub one-place : (s : StructureForm) (ts : List StructureForm) → IsStructure s → IsTwoValued s → (a b : Option Place2) → IsFirstAbove s ts a
+pub one-place : (s : StructureForm) (ts : List StructureForm) → IsStructure s → IsTwoValued s → (a b : Option ListedCover) → IsFirstAbove s ts a
     → IsFirstAbove s ts b → a ≡ b
 one-place s ts is two a b x y = by_places a b x y (one-least (IsAboveAt s ts) (number a) (number b) (least a x) (least b y))
   where
-    number : Option Place2 → Option ℕ
-    number o = option_map (λ (p : Place2). p.structure) o
+    number : Option ListedCover → Option ℕ
+    number o = option_map (λ (p : ListedCover). p.structure) o
 
-    least : (o : Option Place2) → IsFirstAbove s ts o → IsLeast (IsAboveAt s ts) (option_map (λ (p : Place2). p.structure) o)
+    least : (o : Option ListedCover) → IsFirstAbove s ts o → IsLeast (IsAboveAt s ts) (option_map (λ (p : ListedCover). p.structure) o)
     least None all = λ n bad. All-contains (IsNotAbove s) ts bad.0 all (slice_get-contains ts n bad.0 bad.1) bad.2
     least (Some p) first = (
       (first.0.0, first.0.1, embeds-heap s first.0.0 _ is two first.0.2.0.1),
       λ k lt bad. All-contains (IsNotAbove s) (take p.structure ts) bad.0 first.1 (early ts p.structure k bad.0 lt bad.1) bad.2,
     )
 
-    by_places : (a b : Option Place2) → IsFirstAbove s ts a → IsFirstAbove s ts b
-        → option_map (λ (p : Place2). p.structure) a ≡ option_map (λ (p : Place2). p.structure) b → a ≡ b
+    by_places : (a b : Option ListedCover) → IsFirstAbove s ts a → IsFirstAbove s ts b
+        → option_map (λ (p : ListedCover). p.structure) a ≡ option_map (λ (p : ListedCover). p.structure) b → a ≡ b
     by_places None None x y e = refl
     by_places None (Some q) x y e = absurd cc
     by_places (Some p) None x y e = absurd cc

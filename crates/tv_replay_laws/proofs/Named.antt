@@ -12,8 +12,9 @@ use Rattle.tv_model.proofs.Lists.{Contains-none, Contains-cases, Contains-filter
 use Rattle.tv_model.proofs.Lists.{map-agreed}
 use Rattle.tv_renaming_laws.specs.Renamed.{renamed, IsRenaming}
 use Rattle.tv_renaming_laws.proofs.Fronts.{fronts_are_renamings}
-use Rattle.tv_struct.specs.StructureForm.{StructureForm, IsStructure, structure_of, arities_of, value_at}
-use Rattle.tv_struct.proofs.Library.{below-range}
+use Rattle.tv_structure_form.specs.StructureForm.{StructureForm, IsStructure, structure_of, arities_of}
+use Rattle.tv_structure_form.specs.StructureForm.{value_at}
+use Rattle.tv_structure_form.proofs.Library.{below-range}
 use Rattle.tv_two_valued.specs.TwoValued.{IsTwoValued, heap_of, lists_of, is_yes, yes_tuples, extents_from}
 use Rattle.tv_two_valued.proofs.Tuples.{list-fits}
 use Rattle.tv_two_valued.proofs.Truths.{heap-value}

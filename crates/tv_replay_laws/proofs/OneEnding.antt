@@ -9,7 +9,7 @@ use Rattle.tv_listing.specs.ListingForm.{at_node}
 use Rattle.tv_model.specs.Program.{ProgramForm, ActionForm}
 use Rattle.tv_model.specs.Valid.{IsValid}
 use Rattle.tv_model.specs.declared.formula.PredId.{PredId}
-use Rattle.tv_struct.specs.StructureForm.{StructureForm, IsStructure}
+use Rattle.tv_structure_form.specs.StructureForm.{StructureForm, IsStructure}
 use Rattle.tv_trace.specs.declared.trace.Move.{Move}
 use Rattle.tv_two_valued.specs.TwoValued.{IsTwoValued, heap_of}
 use Rattle.tv_renaming_laws.specs.Renamed.{renamed}

@@ -19,9 +19,9 @@ use Rattle.tv_model.proofs.Programs.{holds-fits}
 use Rattle.tv_renaming_laws.specs.Renamed.{IsRenaming, renamed}
 use Rattle.tv_renaming_laws.proofs.Fronts.{fronts_are_renamings}
 use Rattle.tv_renaming_laws.proofs.Names.{holds-back, holds-renamed}
-use Rattle.tv_struct.specs.StructureForm.{StructureForm, IsStructure, value_at}
-use Rattle.tv_struct.specs.TableForm.{AreIndividuals}
-use Rattle.tv_struct.proofs.StructureLaws.{same_structure, value_at-past}
+use Rattle.tv_structure_form.specs.StructureForm.{StructureForm, IsStructure, value_at}
+use Rattle.tv_structure_form.specs.TableForm.{AreIndividuals}
+use Rattle.tv_structure_form.proofs.StructureLaws.{same_structure, value_at-past}
 use Rattle.tv_trace.specs.declared.trace.Move.{Move}
 use Rattle.tv_two_valued.specs.TwoValued.{heap_of}
 use Rattle.tv_two_valued.proofs.Heaps.{heap-told, individuals-or}

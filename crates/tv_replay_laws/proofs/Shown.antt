@@ -7,7 +7,7 @@ use Rattle.std.proofs.lemmas.Bool.{false≢true}
 use Rattle.std.proofs.lemmas.List.Elements.{All-head, All-tail}
 use Rattle.tv_replay_laws.specs.JudgedRules.{IsFirstUnmet, judged_rules}
 use Rattle.tv_replay_laws.specs.Above.{IsFirstAbove}
-use Rattle.tv_replay_laws.specs.declared.state.Place2.{Place2}
+use Rattle.tv_replay_laws.specs.declared.state.ListedCover.{ListedCover}
 use Rattle.tv_replay_laws.proofs.JudgedRules.{judged_are_all}
 use Rattle.tv_embedding_laws.specs.Embedding.{IsHeapOf}
 use Rattle.tv_model.specs.Heap.{Heap}
@@ -23,7 +23,7 @@ use Rattle.tv_model.proofs.Lists.{slice_get-contains}
 use Rattle.tv_renaming_laws.specs.Renamed.{renamed, IsRenaming}
 use Rattle.tv_renaming_laws.proofs.Heaps.{meets-renamed}
 use Rattle.tv_renaming_laws.proofs.Steps.{fair-renamed}
-use Rattle.tv_struct.specs.StructureForm.{StructureForm, IsStructure, structure_of}
+use Rattle.tv_structure_form.specs.StructureForm.{StructureForm, IsStructure, structure_of}
 use Rattle.tv_trace.specs.declared.trace.Move.{Move}
 use Rattle.tv_two_valued.specs.Laws.{IsOfProgram}
 use Rattle.tv_two_valued.specs.TwoValued.{IsTwoValued, heap_of}
@@ -137,7 +137,7 @@ stages-from p valid mode listing before (move ∷ moves) (x ∷ later) (next, ot
 
 -- ---- the run
 
-start-above : (initial : List StructureForm) (start : StructureForm) → IsStructure start → IsTwoValued start → (place : Option Place2)
+start-above : (initial : List StructureForm) (start : StructureForm) → IsStructure start → IsTwoValued start → (place : Option ListedCover)
     → IsFirstAbove start initial place → IsSome place → (t : StructureForm) × Contains initial t × IsHeapOf (heap_of start) (structure_of t)
 start-above initial start is two None above some = absurd (false≢true some)
 start-above initial start is two (Some place) above some =

@@ -4,7 +4,7 @@ use Rattle.tv_model.specs.Heap.{Heap}
 use Rattle.tv_model.specs.Program.{ProgramForm}
 use Rattle.tv_model.specs.Rules.{MeetsProgram, MeetsRule}
 use Rattle.tv_model.specs.Valid.{IsValid}
-use Rattle.tv_struct.specs.StructureForm.{StructureForm, IsStructure}
+use Rattle.tv_structure_form.specs.StructureForm.{StructureForm, IsStructure}
 use Rattle.tv_trace.specs.declared.trace.Move.{Move}
 use Rattle.tv_two_valued.specs.Laws.{IsOfProgram}
 use Rattle.tv_two_valued.specs.TwoValued.{IsTwoValued}

@@ -7,8 +7,8 @@ use Rattle.tv_model.specs.Program.{ProgramForm, ActionForm, UpdateForm, CFree}
 use Rattle.tv_model.specs.Rules.{blank}
 use Rattle.tv_model.specs.Step.{Keeps, StepsThrough, update_for, with_new}
 use Rattle.tv_model.specs.Truth.{Assignment, put_all}
-use Rattle.tv_struct.specs.StructureForm.{StructureForm, IsStructure, arities_of, value_at}
-use Rattle.tv_struct.specs.TableForm.{AreIndividuals}
+use Rattle.tv_structure_form.specs.StructureForm.{StructureForm, IsStructure, arities_of, value_at}
+use Rattle.tv_structure_form.specs.TableForm.{AreIndividuals}
 use Rattle.tv_two_valued.specs.TwoValued.{IsTwoValued, heap_of}
 use Rattle.tv_renaming_laws.specs.Renamed.{renamed}
 

@@ -6,7 +6,7 @@ use Rattle.tv_model.specs.Program.{ProgramForm}
 use Rattle.tv_model.specs.Run.{IsRun, Stage}
 use Rattle.tv_model.specs.declared.program.Mode.{Mode}
 use Rattle.tv_model.specs.declared.program.Mode.TheVariants.{Given, Recompute}
-use Rattle.tv_struct.specs.StructureForm.{StructureForm, structure_of}
+use Rattle.tv_structure_form.specs.StructureForm.{StructureForm, structure_of}
 use Rattle.tv_trace.specs.declared.trace.Move.{Move}
 use Rattle.tv_two_valued.specs.TwoValued.{heap_of}
 use Rattle.tv_renaming_laws.specs.Renamed.{IsRenumbered}

@@ -5,7 +5,7 @@ use Rattle.tv_kleene.specs.declared.K3.TheVariants.{Half}
 use Rattle.tv_model.specs.Program.{ProgramForm, ActionForm}
 use Rattle.tv_model.specs.Truth.{Truth}
 use Rattle.tv_model.specs.declared.program.Edge.{Edge}
-use Rattle.tv_struct.specs.StructureForm.{StructureForm, value_at}
+use Rattle.tv_structure_form.specs.StructureForm.{StructureForm, value_at}
 use Rattle.tv_trace.specs.declared.trace.Move.{Move}
 use Rattle.tv_two_valued.specs.TwoValued.{heap_of}
 use Rattle.tv_replay_laws.specs.Next.{picked_by, AreRetained, IsFreelyUpdated, IsNext}

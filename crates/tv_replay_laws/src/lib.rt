@@ -6,4 +6,4 @@ mod laws;
 mod state;
 
 pub use laws::{judged_rules_are_the_programs, replays_show_runs, runs_have_one_ending};
-pub use state::{Place2, ReplayError, State, StateList, States, Why};
+pub use state::{ListedCover, ReplayError, State, StateList, States, Why};

@@ -10,7 +10,7 @@ use tv_struct::{Numbers, Structure};
 
 /// A structure of a list, by its place, and the least map by which a heap embeds in it.
 #[derive(Debug, Drop)]
-pub struct Place2 {
+pub struct ListedCover {
     pub structure: u32,
     pub map: Numbers,
 }
@@ -28,9 +28,9 @@ pub struct State {
     /// properties by predicate, then the declared ones.
     pub rule: Option<u32>,
     /// In the first state the first initial structure in which the heap embeds; none in later ones.
-    pub initial: Option<Place2>,
+    pub initial: Option<ListedCover>,
     /// The first structure listed at the node in which the heap embeds.
-    pub listed: Option<Place2>,
+    pub listed: Option<ListedCover>,
 }
 
 /// A list of states.

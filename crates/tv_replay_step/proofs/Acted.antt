@@ -29,8 +29,8 @@ use Rattle.tv_replay_laws.specs.Judged.{AgreesAt, IsFirst}
 use Rattle.tv_replay_laws.specs.Next.{AreRetained, HasGiven, IsFreelyUpdated, middle_of, kept_individual}
 use Rattle.tv_replay_laws.specs.Stuck.{AreValuesFor}
 use Rattle.tv_replay_laws.proofs.Named.{same-names}
-use Rattle.tv_struct.specs.StructureForm.{StructureForm, IsStructure, arities_of, value_at}
-use Rattle.tv_struct.proofs.Library.{All-individuals, AreIndividuals-range, below-range}
+use Rattle.tv_structure_form.specs.StructureForm.{StructureForm, IsStructure, arities_of, value_at}
+use Rattle.tv_structure_form.proofs.Library.{All-individuals, AreIndividuals-range, below-range}
 use Rattle.tv_two_valued.specs.Laws.{IsOfProgram}
 use Rattle.tv_two_valued.specs.TwoValued.{IsTwoValued, heap_of}
 use Rattle.tv_two_valued.proofs.Heaps.{heap-of_program, heap-told}

@@ -9,8 +9,8 @@ use Rattle.tv_eval.specs.AssignmentForm.{IsAssigned, assignment_of, individual_f
 use Rattle.tv_model.specs.Program.{ProgramForm, ActionForm}
 use Rattle.tv_model.specs.Valid.{IsAction}
 use Rattle.tv_model.specs.declared.program.Mode.TheVariants.{Given}
-use Rattle.tv_struct.specs.Halves.{row_halves}
-use Rattle.tv_struct.specs.StructureForm.{StructureForm, arities_of, with_new}
+use Rattle.tv_structure_form.specs.Halves.{row_halves}
+use Rattle.tv_structure_form.specs.StructureForm.{StructureForm, arities_of, with_new}
 use Rattle.tv_two_valued.specs.TwoValued.{heap_of}
 use Rattle.tv_two_valued.proofs.Truths.{from-assigned}
 use Rattle.tv_update_laws.proofs.Tables.{over-middle}

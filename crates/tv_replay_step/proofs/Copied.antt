@@ -12,11 +12,12 @@ use Rattle.tv_kleene.specs.declared.K3.TheVariants.{No}
 use Rattle.tv_model.specs.Program.{UpdateForm, update_of}
 use Rattle.tv_model.specs.declared.program.Update.{Update}
 use Rattle.tv_model.proofs.Lists.{Contains-cases, Contains-here, Contains-none, Contains-there}
-use Rattle.tv_struct.specs.StructureForm.{StructureForm, IsStructure, arities_of, value_at, with_value}
+use Rattle.tv_structure_form.specs.StructureForm.{StructureForm, IsStructure, arities_of, value_at}
+use Rattle.tv_structure_form.specs.StructureForm.{with_value}
 use Rattle.tv_struct.specs.StructureRows.{row_at, unary_row, with_row}
-use Rattle.tv_struct.specs.TableForm.{AreIndividuals, row_of}
-use Rattle.tv_struct.proofs.Library.{fits_or_No}
-use Rattle.tv_struct.proofs.StructureLaws.{writes_one_entry}
+use Rattle.tv_structure_form.specs.TableForm.{AreIndividuals, row_of}
+use Rattle.tv_structure_form.proofs.Library.{fits_or_No}
+use Rattle.tv_structure_form.proofs.StructureLaws.{writes_one_entry}
 use Rattle.tv_replay_step.specs.Free.{CanCopy, HasCopied, HasFree, IsShaped, IsntFree}
 use Rattle.tv_replay_step.specs.Free as free
 

@@ -19,11 +19,12 @@ use Rattle.tv_model.specs.Program.{ProgramForm, PredForm, KindForm, KCore, KDefi
 use Rattle.tv_model.specs.Rules.{blank, IsConcrete, MeetsDefinition}
 use Rattle.tv_model.specs.Truth.{put_all}
 use Rattle.tv_model.specs.Valid.{IsValid, IsKind}
-use Rattle.tv_struct.specs.StructureForm.{StructureForm, IsStructure, arities_of, structure_of, summary_at}
-use Rattle.tv_struct.specs.StructureForm.{value_at}
-use Rattle.tv_struct.specs.TableForm.{AreIndividuals}
-use Rattle.tv_struct.proofs.Library.{All-individuals, AreIndividuals-range, below-range, fits_or_No}
-use Rattle.tv_struct.proofs.StructureLaws.{value_at-past}
+use Rattle.tv_structure_form.specs.StructureForm.{StructureForm, IsStructure, arities_of, structure_of}
+use Rattle.tv_structure_form.specs.StructureForm.{summary_at}
+use Rattle.tv_structure_form.specs.StructureForm.{value_at}
+use Rattle.tv_structure_form.specs.TableForm.{AreIndividuals}
+use Rattle.tv_structure_form.proofs.Library.{All-individuals, AreIndividuals-range, below-range, fits_or_No}
+use Rattle.tv_structure_form.proofs.StructureLaws.{value_at-past}
 use Rattle.tv_two_valued.specs.TwoValued.{IsTwoValued, heap_of}
 use Rattle.tv_two_valued.proofs.Heaps.{heap-told}
 use Rattle.tv_two_valued.proofs.Truths.{truth_is_told}

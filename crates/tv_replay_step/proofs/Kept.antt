@@ -24,8 +24,8 @@ use Rattle.tv_model.proofs.Lists.{Contains-here, Contains-there, Contains-cases,
 use Rattle.tv_model.proofs.Lists.{Contains-filter_back, pushed-old}
 use Rattle.tv_replay_laws.specs.Next.{AreRetained, middle_of}
 use Rattle.tv_replay_laws.proofs.OneStep.{ascending-same}
-use Rattle.tv_struct.specs.StructureForm.{StructureForm, IsStructure, structure_of}
-use Rattle.tv_struct.proofs.Library.{Contains-range, below-range}
+use Rattle.tv_structure_form.specs.StructureForm.{StructureForm, IsStructure, structure_of}
+use Rattle.tv_structure_form.proofs.Library.{Contains-range, below-range}
 use Rattle.tv_two_valued.specs.TwoValued.{IsTwoValued, heap_of, is_yes}
 use Rattle.tv_replay_step.specs.Updated.{kept_of}
 use Rattle.tv_replay_step.proofs.Middle.{Tells, middle-tells, middle-alike}

@@ -24,9 +24,9 @@ use Rattle.tv_model.specs.Valid.{IsAction}
 use Rattle.tv_model.specs.declared.program.Mode.TheVariants.{Given}
 use Rattle.tv_model.proofs.Lists.{Contains-here, Contains-there, map-agreed}
 use Rattle.tv_replay_laws.specs.Next.{middle_of}
-use Rattle.tv_struct.specs.Halves.{half_of, row_halves}
-use Rattle.tv_struct.specs.StructureForm.{StructureForm, IsStructure, structure_of, value_at}
-use Rattle.tv_struct.proofs.Library.{below-range}
+use Rattle.tv_structure_form.specs.Halves.{half_of, row_halves}
+use Rattle.tv_structure_form.specs.StructureForm.{StructureForm, IsStructure, structure_of, value_at}
+use Rattle.tv_structure_form.proofs.Library.{below-range}
 use Rattle.tv_two_valued.specs.TwoValued.{IsTwoValued, heap_of}
 use Rattle.tv_update.specs.Update.{IsGivenOf}
 use Rattle.tv_update.specs.Updated.{keep_values}

@@ -15,10 +15,11 @@ use Rattle.tv_model.specs.Step.{with_new}
 use Rattle.tv_model.specs.Truth.{Assignment, Truth}
 use Rattle.tv_model.proofs.Lists.{pushed-cases}
 use Rattle.tv_replay_laws.specs.Next.{middle_of}
-use Rattle.tv_struct.specs.StructureForm.{StructureForm, IsStructure, structure_of, value_at, summary_at}
-use Rattle.tv_struct.specs.StructureForm as structures
-use Rattle.tv_struct.proofs.Library.{below-range}
-use Rattle.tv_struct.proofs.StructureLaws.{drawn_reads}
+use Rattle.tv_structure_form.specs.StructureForm.{StructureForm, IsStructure, structure_of, value_at}
+use Rattle.tv_structure_form.specs.StructureForm.{summary_at}
+use Rattle.tv_structure_form.specs.StructureForm as structures
+use Rattle.tv_structure_form.proofs.Library.{below-range}
+use Rattle.tv_structure_form.proofs.StructureLaws.{drawn_reads}
 use Rattle.tv_two_valued.specs.TwoValued.{IsTwoValued, heap_of}
 use Rattle.tv_two_valued.proofs.Truths.{heap-value, looks-alike}
 use Rattle.tv_eval_laws.specs.Laws.{GivesIndividuals, LooksAlike, TellsTruth}

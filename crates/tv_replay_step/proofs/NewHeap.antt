@@ -16,10 +16,11 @@ use Rattle.tv_model.specs.Rules.{IsConcrete, IsHeap}
 use Rattle.tv_model.specs.Step.{update_for}
 use Rattle.tv_model.specs.Truth.{Assignment}
 use Rattle.tv_model.specs.Valid.{IsAction, IsChange, IsValid}
-use Rattle.tv_struct.specs.StructureForm.{StructureForm, IsStructure, arities_of, structure_of, summary_at}
-use Rattle.tv_struct.specs.StructureForm.{value_at}
-use Rattle.tv_struct.specs.TableForm.{AreIndividuals}
-use Rattle.tv_struct.proofs.Library.{All-individuals, Contains-range}
+use Rattle.tv_structure_form.specs.StructureForm.{StructureForm, IsStructure, arities_of, structure_of}
+use Rattle.tv_structure_form.specs.StructureForm.{summary_at}
+use Rattle.tv_structure_form.specs.StructureForm.{value_at}
+use Rattle.tv_structure_form.specs.TableForm.{AreIndividuals}
+use Rattle.tv_structure_form.proofs.Library.{All-individuals, Contains-range}
 use Rattle.tv_two_valued.specs.Laws.{IsOfProgram}
 use Rattle.tv_two_valued.specs.TwoValued.{IsTwoValued, heap_of}
 use Rattle.tv_two_valued.proofs.Heaps.{heap-of_program}

@@ -11,7 +11,7 @@ use Rattle.tv_replay_laws.specs.Next.{AreRetained, HasGiven, middle_of, kept_ind
 use Rattle.tv_replay_laws.specs.Stuck.{ArePicked, AreValues, AreValuesFor, HasRoom, IsEnabled}
 use Rattle.tv_replay_laws.specs.declared.state.Why.{Why}
 use Rattle.tv_replay_laws.specs.declared.state.Why.TheVariants as why
-use Rattle.tv_struct.specs.StructureForm.{StructureForm, IsOver, IsStructure, arities_of}
+use Rattle.tv_structure_form.specs.StructureForm.{StructureForm, IsOver, IsStructure, arities_of}
 use Rattle.tv_trace.specs.declared.trace.Move.{Move}
 use Rattle.tv_tvs.specs.Targets.{IsRead}
 use Rattle.tv_two_valued.specs.TwoValued.{IsTwoValued, heap_of}

@@ -7,7 +7,7 @@ use Rattle.tv_update_laws.specs.Tables.{IsGivenOver, middle_table}
 use Rattle.tv_model.specs.Program.{ProgramForm, ActionForm}
 use Rattle.tv_model.specs.Truth.{Assignment}
 use Rattle.tv_model.specs.declared.program.Mode.TheVariants.{Given}
-use Rattle.tv_struct.specs.StructureForm.{StructureForm, structure_of}
+use Rattle.tv_structure_form.specs.StructureForm.{StructureForm, structure_of}
 use Rattle.tv_two_valued.specs.TwoValued.{is_yes}
 
 -- the individuals of the middle structure of which the retain formula is Yes

@@ -5,7 +5,7 @@ ghost use Rattle.std.specs.List.{AllByRecursion};
 ghost use Rattle.tv_eval.specs.ScratchForm.{IsMadeFor};
 ghost use Rattle.tv_model.specs.Program.{program_of, update_of};
 ghost use Rattle.tv_model.specs.Valid.{IsValid};
-ghost use Rattle.tv_struct.specs.StructureForm.{IsOver};
+ghost use Rattle.tv_structure_form.specs.StructureForm.{IsOver};
 ghost use Rattle.tv_update.specs.Redefined.{AreAllDefined};
 ghost use Rattle.tv_replay_step.specs.Free.{CanCopy, IsFinished, IsFree};
 

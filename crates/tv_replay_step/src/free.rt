@@ -3,7 +3,7 @@
 ghost use Rattle.std.specs.Prelude.{◌<◌, ◌↔◌, length, map, IfSome, IsTrue};
 ghost use Rattle.std.specs.List.{AllByRecursion};
 ghost use Rattle.tv_model.specs.Program.{update_of};
-ghost use Rattle.tv_struct.specs.StructureForm.{arities_of};
+ghost use Rattle.tv_structure_form.specs.StructureForm.{arities_of};
 ghost use Rattle.tv_struct.specs.StructureRows.{HasArity};
 ghost use Rattle.tv_replay_step.specs.Free.{CanCopy, GivesAll, GivesValues, HasCopied, HasFree, IsFree};
 

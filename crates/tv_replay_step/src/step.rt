@@ -6,7 +6,7 @@ ghost use Rattle.tv_eval.specs.ScratchForm.{IsMadeFor};
 ghost use Rattle.tv_model.specs.Program.{action_of, program_of};
 ghost use Rattle.tv_replay_laws.specs.Stuck.{HasRoom};
 ghost use Rattle.tv_model.specs.Valid.{IsValid};
-ghost use Rattle.tv_struct.specs.StructureForm.{IsOver};
+ghost use Rattle.tv_structure_form.specs.StructureForm.{IsOver};
 ghost use Rattle.tv_trace.specs.Meaning.{IsMoveOn};
 ghost use Rattle.tv_two_valued.specs.TwoValued.{IsTwoValued};
 ghost use Rattle.tv_update.specs.Redefined.{AreAllDefined};

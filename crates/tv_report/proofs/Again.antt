@@ -23,7 +23,7 @@ use Rattle.tv_model.specs.declared.program.Program.{Program}
 use Rattle.tv_phrases.specs.Repeated.{begins_with}
 use Rattle.tv_phrases.specs.Tokens.{after}
 use Rattle.tv_phrases.proofs.Facts.{other_mark}
-use Rattle.tv_struct.specs.StructureForm.{StructureForm, unmarked}
+use Rattle.tv_structure_form.specs.StructureForm.{StructureForm, unmarked}
 use Rattle.tv_lex.proofs.PieceTokens.{Lexes, lexes_read}
 use Rattle.tv_tvs.proofs.Lexing.{word}
 use Rattle.tv_tvs.proofs.Valid.{valid_fits}

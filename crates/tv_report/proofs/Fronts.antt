@@ -25,7 +25,7 @@ use Rattle.tv_report.specs.Once.{AreOnce, GoesOn}
 use Rattle.tv_report.specs.Text.{report_text, node_line, node_text, nodes_text, message_text, map_text}
 use Rattle.tv_report.proofs.OnceLaws.{goes_keys, goes_once}
 use Rattle.tv_report.proofs.Lists.{zipped_at, zipped_length}
-use Rattle.tv_struct.specs.StructureForm.{StructureForm, unmarked}
+use Rattle.tv_structure_form.specs.StructureForm.{StructureForm, unmarked}
 use Rattle.tv_tvs.specs.Canonical.{canonical_text}
 use Rattle.tv_tvs.specs.Targets.{IsRead}
 

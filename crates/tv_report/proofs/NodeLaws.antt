@@ -16,7 +16,7 @@ use Rattle.tv_model.specs.declared.program.Vocab.{Vocab}
 use Rattle.tv_phrases.specs.Reading.{taken, ◌>>=◌, Told}
 use Rattle.tv_phrases.specs.declared.error.PhraseError.{PhraseError}
 use Rattle.tv_phrases.specs.declared.error.PhraseError.TheVariants.{Unexpected, Memory}
-use Rattle.tv_struct.specs.StructureForm.{StructureForm}
+use Rattle.tv_structure_form.specs.StructureForm.{StructureForm}
 use Rattle.tv_tvs.specs.Reading.{structure_at}
 use Rattle.tv_tvs.specs.Targets.{IsRead}
 use Rattle.tv_report.specs.Meaning.{NamedNode, ListsNodes, node_name}

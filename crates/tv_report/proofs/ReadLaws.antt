@@ -10,7 +10,7 @@ use Rattle.tv_model.specs.Program.{program_of}
 use Rattle.tv_model.specs.declared.program.Program.{Program}
 use Rattle.tv_model.specs.declared.program.Vocab.{Vocab}
 use Rattle.tv_phrases.specs.Reading.{taken}
-use Rattle.tv_struct.specs.StructureForm.{StructureForm}
+use Rattle.tv_structure_form.specs.StructureForm.{StructureForm}
 use Rattle.tv_tvs.specs.Meaning.{struct_meant, structs_meant}
 use Rattle.tv_tvs.specs.Reading.{struct_at, structure_at}
 use Rattle.tv_tvs.specs.Tree.{StructTree}

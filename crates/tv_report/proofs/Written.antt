@@ -20,7 +20,7 @@ use Rattle.tv_phrases.specs.Repeated.{Repeated, begins_with}
 use Rattle.tv_phrases.specs.Tokens.{after, first, number_item}
 use Rattle.tv_phrases.proofs.Numerals.{number_written}
 use Rattle.tv_phrases.proofs.Repeats.{begun}
-use Rattle.tv_struct.specs.StructureForm.{StructureForm, IsStructure, IsOver, unmarked}
+use Rattle.tv_structure_form.specs.StructureForm.{StructureForm, IsStructure, IsOver, unmarked}
 use Rattle.tv_tvs.specs.Canonical.{canonical_text, comma_text, value_text}
 use Rattle.tv_tvs.specs.Laws.{IsSpelled}
 use Rattle.tv_tvs.specs.Meaning.{IsVocabulary, MeansStruct, structs_meant}

@@ -3,7 +3,7 @@ use Rattle.std.specs.Prelude.{ℕ, ◌<◌, ◌^◌, map, All}
 use Rattle.tv_model.specs.Program.{program_of}
 use Rattle.tv_model.specs.Valid.{IsValid}
 use Rattle.tv_model.specs.declared.program.Program.{Program}
-use Rattle.tv_struct.specs.StructureForm.{unmarked}
+use Rattle.tv_structure_form.specs.StructureForm.{unmarked}
 use Rattle.tv_listing.specs.Listed.{IsListing}
 use Rattle.tv_listing.specs.declared.analysis.Analysis.{Analysis}
 use Rattle.tv_listing.specs.declared.analysis.Item.{Item}

@@ -8,7 +8,7 @@ use Rattle.tv_model.specs.Program.{program_of}
 use Rattle.tv_model.specs.declared.program.Program.{Program}
 use Rattle.tv_model.specs.declared.program.Vocab.{Vocab}
 use Rattle.tv_listing.specs.ListingForm.{at_node}
-use Rattle.tv_struct.specs.StructureForm.{StructureForm}
+use Rattle.tv_structure_form.specs.StructureForm.{StructureForm}
 use Rattle.tv_listing.specs.declared.analysis.Analysis.{Analysis}
 use Rattle.tv_tvs.specs.Meaning.{structs_meant}
 use Rattle.tv_report.specs.Tree.{NodeTree, ReportTree}

@@ -3,7 +3,7 @@ use Rattle.std.specs.Prelude.{ℕ, ◌≡◌, ◌<◌, ◌^◌, ◌⊎◌, List,
 use Rattle.std.specs.Prelude.{slice_set}
 use Rattle.tv_model.specs.declared.program.Vocab.{Vocab}
 use Rattle.tv_listing.specs.ListingForm.{at_node}
-use Rattle.tv_struct.specs.StructureForm.{StructureForm}
+use Rattle.tv_structure_form.specs.StructureForm.{StructureForm}
 use Rattle.tv_tvs.specs.Targets.{IsRead}
 use Rattle.tv_report.specs.Meaning.{NamedNode, node_name}
 use Rattle.tv_report.specs.Once.{GoesOn, Breaks}

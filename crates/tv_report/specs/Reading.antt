@@ -8,7 +8,7 @@ use Rattle.tv_phrases.specs.Reading.{Reading, ◌>>=◌, choose}
 use Rattle.tv_phrases.specs.Tokens.{after, first, word_item, text_item, number_item}
 use Rattle.tv_phrases.specs.Lists.{optional_list}
 use Rattle.tv_phrases.specs.Repeated.{begins_with, all_of}
-use Rattle.tv_struct.specs.StructureForm.{StructureForm}
+use Rattle.tv_structure_form.specs.StructureForm.{StructureForm}
 use Rattle.tv_listing.specs.declared.analysis.Item.{Item}
 use Rattle.tv_listing.specs.declared.analysis.Item.TheVariants as item
 use Rattle.tv_listing.specs.declared.analysis.MapLine.{MapLine}

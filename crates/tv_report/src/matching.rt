@@ -12,7 +12,7 @@ ghost use Rattle.tv_report.specs.Lines.{IsMessageLine, message_key};
 ghost use Rattle.tv_report.specs.Meaning.{IsReportText};
 ghost use Rattle.tv_report.specs.Once.{AreOnce, GoesOn};
 ghost use Rattle.tv_report.specs.Text.{node_text, nodes_text, message_text};
-ghost use Rattle.tv_struct.specs.StructureForm.{IsOver};
+ghost use Rattle.tv_structure_form.specs.StructureForm.{IsOver};
 ghost use Rattle.tv_tvs.specs.Canonical.{canonical_text};
 ghost use Rattle.tv_tvs.specs.Meaning.{IsVocabulary};
 ghost use Rattle.tv_tvs.specs.Targets.{IsRead};

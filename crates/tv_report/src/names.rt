@@ -26,7 +26,7 @@ pub(crate) fn see_name<'a>(names: &mut NameSet<'a>, name: &'a [u8]) -> Result<bo
     Ok(new)
 }
 
-/// The same for an edge and a number.
+/// Puts an edge and a number behind the others, unless they are among them, and answers whether they weren't.
 pub(crate) fn see_pair(pairs: &mut Pairs, pair: (u32, u32)) -> Result<bool, AllocError>
     ensures { IfOk result (IsSeen pairs.old.keys pairs.new.keys pair) }
 {
@@ -34,7 +34,7 @@ pub(crate) fn see_pair(pairs: &mut Pairs, pair: (u32, u32)) -> Result<bool, Allo
     Ok(new)
 }
 
-/// The same for an item.
+/// Puts an item behind the others, unless it is among them, and answers whether it wasn't.
 pub(crate) fn see_item(items: &mut Keys, item: Item) -> Result<bool, AllocError>
     ensures { IfOk result (IsSeen items.old.keys items.new.keys item) }
 {

@@ -7,7 +7,7 @@ ghost use Rattle.tv_listing.specs.ListingForm.{at_node};
 ghost use Rattle.tv_model.specs.Program.{program_of};
 ghost use Rattle.tv_model.specs.Valid.{IsValid};
 ghost use Rattle.tv_phrases.specs.Reading.{GivesReading, Told};
-ghost use Rattle.tv_struct.specs.StructureForm.{StructureForm};
+ghost use Rattle.tv_structure_form.specs.StructureForm.{StructureForm};
 ghost use Rattle.tv_tvs.specs.Reading.{structure_at};
 ghost use Rattle.tv_tvs.specs.Targets.{IsRead};
 ghost use Rattle.tv_tvs.specs.Views.{names_of};

@@ -7,7 +7,7 @@ ghost use Rattle.tv_model.specs.Program.{program_of};
 ghost use Rattle.tv_model.specs.Valid.{IsValid};
 ghost use Rattle.tv_listing.specs.Listed.{IsListing};
 ghost use Rattle.tv_listing.specs.ListingForm.{at_node};
-ghost use Rattle.tv_struct.specs.StructureForm.{IsOver};
+ghost use Rattle.tv_structure_form.specs.StructureForm.{IsOver};
 ghost use Rattle.tv_tvs.specs.Canonical.{canonical_text, comma_text, value_text};
 ghost use Rattle.tv_tvs.specs.Meaning.{IsVocabulary};
 ghost use Rattle.tv_report.specs.Lines.{message_at};

@@ -48,7 +48,7 @@ impl HalfRow {
         }
     }
 
-    /// The same values.
+    /// A copy: a row of the values that this one has.
     pub fn copied(&self) -> HalfRow
         ensures { result ≡ self.now }
     {
@@ -72,7 +72,7 @@ impl HalfRow {
         Row::held(words, self.size)
     }
 
-    /// The same values, and one more that is `No`.
+    /// The row's values, and one more behind them that is `No`.
     pub fn extended(&self) -> HalfRow
         requires { length self.now < 256 }
         ensures { result ≡ map (λ origin. slice_index_or self.now origin No)

@@ -209,7 +209,7 @@ impl PackedWords {
         self.row_more(start, size)
     }
 
-    /// The same, word by word.
+    /// The row of `size` values that begins at word `start`, read word by word.
     #[inline(never)]
     fn row_more(&self, start: usize, size: u32) -> Row
         requires size { size ≤ 256 }
@@ -344,7 +344,7 @@ impl PackedWords {
         self.column_more(width, start, rows, column)
     }
 
-    /// The same, value by value.
+    /// The values in a column of that many rows of `width` words from word `start` on, read one by one.
     #[inline(never)]
     fn column_more(&self, width: usize, start: usize, rows: u32, column: usize) -> Row
         requires rows { rows ≤ 256 }

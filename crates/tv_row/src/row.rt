@@ -91,7 +91,7 @@ impl Row {
         Row::of_more(size, k)
     }
 
-    /// The same, word by word.
+    /// `size` values, each of them `k`, made word by word.
     fn of_more(size: u32, k: K3) -> Row
         requires { size ≤ 256 }
         ensures { result ≡ replicate size k }
@@ -206,7 +206,7 @@ impl Row {
         self.first_more(size)
     }
 
-    /// The same, word by word.
+    /// The values at the first `size` places, word by word.
     fn first_more(&self, size: u32) -> Row
         requires { size ≤ length self.now }
         ensures { result ≡ take size self.now }
@@ -246,7 +246,7 @@ impl Row {
         self.not_more()
     }
 
-    /// The same, word by word.
+    /// Each value negated, word by word.
     fn not_more(&self) -> Row
         ensures { result ≡ map negation_of self.now }
     {

@@ -24,7 +24,8 @@ use Rattle.tv_eval_laws.specs.Value.{value}
 use Rattle.tv_eval_laws.proofs.Agreed.{only_free_variables_matter}
 use Rattle.tv_eval_laws.proofs.Folds.{greatest-threshold}
 use Rattle.tv_stable_laws.specs.Stable.{IsHeadMet, IsStableUnder}
-use Rattle.tv_rules.specs.Closing.{conjuncts, definition_rules, dropped, dropped_rule, is_free, is_in_head}
+use Rattle.tv_model.specs.Free.{is_free}
+use Rattle.tv_rules.specs.Closing.{conjuncts, definition_rules, dropped, dropped_rule, is_in_head}
 use Rattle.tv_rules.specs.Closing.{may_drop}
 use Rattle.tv_rules.specs.Closing.{closed_set, negated_head}
 use Rattle.tv_rules.specs.Decoded.{IsEntry, IsRuleAbout}
@@ -36,7 +37,8 @@ use Rattle.tv_rules.proofs.AllBut.{before-all, behind-all, contains-at}
 use Rattle.tv_rules.proofs.Carried.{conjuncts_carry_formulas, from-conjuncts}
 use Rattle.tv_rules.proofs.EntryLemmas.{entries-kept}
 use Rattle.tv_rules.proofs.Family.{free-alike, zip-at, zip-length}
-use Rattle.tv_rules.proofs.Free.{and-parts, free-from, put-itself, put_all-gives}
+use Rattle.tv_model.proofs.FreeTests.{and-parts, free-from}
+use Rattle.tv_rules.proofs.Free.{put-itself, put_all-gives}
 use Rattle.tv_rules.proofs.KeptLemmas.{but-about, some-at}
 
 must-yes : (k : K3) → k ≡ Yes → Must k

@@ -10,9 +10,11 @@ use Rattle.tv_model.specs.Rules.{IsInHead, MeetsRule, head_formula}
 use Rattle.tv_model.specs.Truth.{put}
 use Rattle.tv_model.proofs.Heads.{free-in_head}
 use Rattle.tv_model.proofs.Assignments.{put-same, put-other}
-use Rattle.tv_rules.specs.Closing.{rule_of_parts, is_free, is_in_head, may_drop, dropped}
+use Rattle.tv_model.specs.Free.{is_free}
+use Rattle.tv_rules.specs.Closing.{rule_of_parts, is_in_head, may_drop, dropped}
 use Rattle.tv_rules.specs.Laws.{DroppingKeepsMeaning}
-use Rattle.tv_rules.proofs.Free.{and-parts, not-both, free-from, from-in_head, Truth-agreed, put-itself}
+use Rattle.tv_model.proofs.FreeTests.{and-parts, not-both, free-from}
+use Rattle.tv_rules.proofs.Free.{from-in_head, Truth-agreed, put-itself}
 
 meets-under : (h : Heap) (v : ℕ) (head : HeadForm) (f : Form) → IsFree v f
     → MeetsRule h (rule_of_parts (FExists v f) head) → MeetsRule h (rule_of_parts f head)

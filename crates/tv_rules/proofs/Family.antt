@@ -18,7 +18,7 @@ use Rattle.tv_rules.specs.declared.entries.Entry.{Entry}
 use Rattle.tv_rules.specs.Flags.{Flags, base_flag, IsOfBase, IsOfBaseOrTwice, has_twice}
 use Rattle.tv_rules.specs.Standing.{StandsIn, IsHeadOf, HasEquality, IsEquality, HasEqualityIn, HasTwice}
 use Rattle.tv_rules.specs.Standing.{SeesSummaries}
-use Rattle.tv_rules.proofs.Free.{or-parts, or-first, or-second}
+use Rattle.tv_model.proofs.FreeTests.{or-parts, or-first, or-second}
 use Rattle.tv_rules.proofs.EntryLemmas.{entries-kept}
 use Rattle.tv_rules.proofs.MetByHeaps.{All-found, All-mapped}
 use Rattle.tv_rules.proofs.RuleTests.{twice-answer}

@@ -100,7 +100,7 @@ numbers-are IsSo rules flags numbers all places = record {
   increasing = places.increasing;
 }
 
--- the same of an answer that may be want of memory
+-- the same of an answer that may be lack of memory
 pub numbers-of_result : {E : Type 0} (IsSo : RuleForm → Type 0) (rules : List RuleForm) (flags read : List Bool) → read ≡ flags
     → (result : Result (List ℕ) E) → AllZip (Flags IsSo) rules flags → IfOk result (AreTrueAt read)
     → IfOk result (AreNumbersOf IsSo rules)

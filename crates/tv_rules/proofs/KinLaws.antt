@@ -11,7 +11,7 @@ use Rattle.tv_model.specs.declared.program.Rule.{Rule}
 use Rattle.tv_model.specs.Program.{KindForm, RuleForm, rule_of}
 use Rattle.tv_coerce_members.specs.Members.{IsLaidOut}
 use Rattle.tv_coerce_members.specs.declared.shapes.Shape.{Shape}
-use Rattle.tv_coerce_moves.specs.Movers.{MoverLists}
+use Rattle.tv_coerce_moves.specs.Occurrences.{OccurrenceLists}
 use Rattle.tv_rules.specs.declared.entries.Entry.{Entry}
 use Rattle.tv_rules.specs.Closing.{conjuncts, definition_rules, dropped_rule}
 use Rattle.tv_rules.specs.Decoded.{IsEntry}
@@ -116,7 +116,7 @@ none-there ns P count all none n has =
     none has.0 n (omega (arith, all, has.1)) (slice_get-get_or ns has.0 n has.1 ∙ ap Some has.2)
 
 -- the list of a base rule has the numbers of its closed rules
-pub kin-are : (bases : List Rule) (lists : MoverLists) (families : List (List ℕ)) → AreMovedBy bases lists families
+pub kin-are : (bases : List Rule) (lists : OccurrenceLists) (families : List (List ℕ)) → AreMovedBy bases lists families
     → (rules : List Rule) → bases ≡ rules → (number : ℕ) (entries : List Entry)
     → map entry_of entries ≡ closed_entries (map rule_of bases) → (e : Entry) → slice_get entries number ≡ Some e
     → (found : List ℕ) → found ≡ get_or families e.base [] → (n : ℕ) → Contains found n ↔ IsKin rules number n

@@ -17,14 +17,14 @@ use Rattle.tv_model.specs.Form.{Form, FZero, FOne, FAtom, FIsNew, FSame, FNot, F
 use Rattle.tv_model.specs.Form.{FExists, FForall, FClosure}
 use Rattle.tv_model.specs.Program.{HeadForm, HNever, HAtom, HSame, RuleForm, rule_of}
 use Rattle.tv_model.specs.declared.program.Rule.{Rule}
-use Rattle.tv_coerce_moves.specs.declared.list.Mover.{Mover}
+use Rattle.tv_coerce_moves.specs.declared.list.Occurrence.{Occurrence}
 use Rattle.tv_coerce_moves.specs.declared.list.Moving.{Moving}
 use Rattle.tv_coerce_moves.specs.declared.list.Moving.TheVariants.{Alone, Several}
 use Rattle.tv_coerce_moves.specs.Moves.{MayMove, MayTell}
-use Rattle.tv_coerce_moves.specs.Movers.{AreNoted, HasMember, HasPlaces, IsAmong, IsListed, KeepsMembers}
-use Rattle.tv_coerce_moves.specs.Movers.{MoverLists}
-use Rattle.tv_coerce_moves.specs.Movers.{MovesOther}
-use Rattle.tv_coerce_moves.specs.Movers.{list_for}
+use Rattle.tv_coerce_moves.specs.Occurrences.{AreNoted, HasMember, HasPlaces, IsAmong, IsListed, KeepsMembers}
+use Rattle.tv_coerce_moves.specs.Occurrences.{OccurrenceLists}
+use Rattle.tv_coerce_moves.specs.Occurrences.{MovesOther}
+use Rattle.tv_coerce_moves.specs.Occurrences.{list_for}
 use Rattle.tv_coerce_moves.proofs.MoveLaws.{moves-shows}
 use Rattle.tv_coerce_moves.proofs.NotedLaws.{keeps-all, keeps-both}
 use Rattle.tv_rules.specs.declared.entries.Entry.{Entry}
@@ -33,7 +33,7 @@ use Rattle.tv_rules.specs.Decoded.{IsEntry}
 use Rattle.tv_rules.specs.EntryForms.{EntryForm, closed_entries, entry_of, rules_of, swapped_at}
 use Rattle.tv_rules.specs.Flags.{are_twice, has_twice}
 use Rattle.tv_rules.specs.Kin.{base_in}
-use Rattle.tv_rules.specs.Moved.{AreConjunctsNoted, AreFamilies, AreHeadsNoted, AreMovedBy, AreMovers}
+use Rattle.tv_rules.specs.Moved.{AreConjunctsNoted, AreFamilies, AreHeadsNoted, AreMovedBy, AreOccurrences}
 use Rattle.tv_rules.specs.Moved.{AreRulesNoted}
 use Rattle.tv_rules.specs.Moved.{IsHeadNoted, IsMovedBySomeOf, IsMovedOf, IsRuleNoted, member, member_at}
 use Rattle.tv_rules.specs.Moved.{other_place}
@@ -48,13 +48,13 @@ use Rattle.tv_rules.proofs.KeptLemmas.{about-conjuncts, some-at}
 pub less-or-last : (k count : ℕ) → k < count + 1 → (k < count) ⊎ (k ≡ count)
 less-or-last k count less = ⊎_elim (λ e. inr e) (λ ne. inl (omega (arith, less, ne))) (cases_eq k count)
 
-pub conjuncts-none : (number : ℕ) (forms : List Form) (lists : MoverLists) → AreConjunctsNoted 0 number forms lists lists
+pub conjuncts-none : (number : ℕ) (forms : List Form) (lists : OccurrenceLists) → AreConjunctsNoted 0 number forms lists lists
 conjuncts-none number forms lists = record {
   kept = keeps-all lists;
   noted = λ k f head below at listed moves. absurd (omega (arith, below));
 }
 
-pub conjuncts-next : (count number : ℕ) (forms : List Form) (f : Form) (old mid new : MoverLists) → slice_get forms count ≡ Some f
+pub conjuncts-next : (count number : ℕ) (forms : List Form) (f : Form) (old mid new : OccurrenceLists) → slice_get forms count ≡ Some f
     → AreConjunctsNoted count number forms old mid → AreNoted (λ head. MayMove head true f) (member number (Some count)) mid new
     → AreConjunctsNoted (count + 1) number forms old new
 conjuncts-next count number forms f old mid new is before last = record {
@@ -73,7 +73,7 @@ conjuncts-next count number forms f old mid new is before last = record {
         in subst (λ j. HasMember (member number (Some j)) (list_for new head)) (sym e)
         (last.there head ((before.kept.listed head).0 listed) (subst (MayMove head true) same moves))
 
-pub rule-noted : (count number : ℕ) (rule : RuleForm) (forms : List Form) (f : Form) (old mid new : MoverLists)
+pub rule-noted : (count number : ℕ) (rule : RuleForm) (forms : List Form) (f : Form) (old mid new : OccurrenceLists)
     → length forms ≤ count → forms ≡ conjuncts rule.body → f ≡ negated_head rule.head
     → AreConjunctsNoted count number forms old mid
     → AreNoted (λ head. MayMove head true f) (member number None) mid new → IsRuleNoted number rule new
@@ -88,10 +88,10 @@ rule-noted count number rule forms f old mid new all are is before last (Some k)
 
 -- ---- rules
 
-pub rules-none : (rules : List RuleForm) (lists : MoverLists) → AreRulesNoted 0 rules lists
+pub rules-none : (rules : List RuleForm) (lists : OccurrenceLists) → AreRulesNoted 0 rules lists
 rules-none rules lists n rule below at place f head is listed moves = absurd (omega (arith, below))
 
-pub rules-next : (count : ℕ) (rules : List RuleForm) (rule : RuleForm) (old new : MoverLists) → slice_get rules count ≡ Some rule
+pub rules-next : (count : ℕ) (rules : List RuleForm) (rule : RuleForm) (old new : OccurrenceLists) → slice_get rules count ≡ Some rule
     → AreRulesNoted count rules old → KeepsMembers old new → IsRuleNoted count rule new → AreRulesNoted (count + 1) rules new
 rules-next count rules rule old new is before kept here n other below at =
     ⊎_elim
@@ -109,10 +109,10 @@ twice_is HNever (v, twice) = absurd twice
 twice_is (HAtom flag pred vars) (v, twice) = ap are_twice twice ∙ eq-eqb v v refl
 twice_is (HSame flag x y) (v, twice) = eq-eqb x y (twice.0 ∙ sym twice.1)
 
-pub heads-none : (entries : List EntryForm) (lists : MoverLists) → AreHeadsNoted 0 entries lists
+pub heads-none : (entries : List EntryForm) (lists : OccurrenceLists) → AreHeadsNoted 0 entries lists
 heads-none entries lists n e below at twice head listed tells = absurd (omega (arith, below))
 
-pub heads-next : (count : ℕ) (entries : List EntryForm) (e : EntryForm) (old new : MoverLists) → slice_get entries count ≡ Some e
+pub heads-next : (count : ℕ) (entries : List EntryForm) (e : EntryForm) (old new : OccurrenceLists) → slice_get entries count ≡ Some e
     → AreHeadsNoted count entries old → KeepsMembers old new → IsHeadNoted new e → AreHeadsNoted (count + 1) entries new
 heads-next count entries e old new is before kept here n other below at =
     ⊎_elim
@@ -124,7 +124,7 @@ heads-next count entries e old new is before kept here n other below at =
     (less-or-last n count below)
 
 -- notes of more members keep these
-pub rules-stay : (count : ℕ) (rules : List RuleForm) (old new : MoverLists) → AreRulesNoted count rules old → KeepsMembers old new
+pub rules-stay : (count : ℕ) (rules : List RuleForm) (old new : OccurrenceLists) → AreRulesNoted count rules old → KeepsMembers old new
     → AreRulesNoted count rules new
 rules-stay count rules old new before kept n rule below at place f head is listed moves =
     kept.members head (member n place) (before n rule below at place f head is ((kept.listed head).1 listed) moves)
@@ -194,7 +194,7 @@ others-move place denied (Alone other) ne among = λ e. ne (sym among ∙ e)
 others-move place denied Several ne among = tt
 
 -- the changes that a rule sees have lists
-seen-listed : (preds : ℕ) (lists : MoverLists) (rule : RuleForm) → HasPlaces preds lists → ((q : ℕ) → StandsIn q rule → q < preds)
+seen-listed : (preds : ℕ) (lists : OccurrenceLists) (rule : RuleForm) → HasPlaces preds lists → ((q : ℕ) → StandsIn q rule → q < preds)
     → (head : HeadForm) → Sees head rule → IsListed head lists
 seen-listed preds lists rule places range HNever sees = ⊎_elim (λ k. moves-shows HNever rule.body true k) (λ k. k.0) sees
 seen-listed preds lists rule places range (HAtom true pred vars) sees =
@@ -207,7 +207,7 @@ seen-listed preds lists rule places range (HAtom false pred vars) sees =
     in omega (arith, below, places.to_no)
 seen-listed preds lists rule places range (HSame flag v w) sees = tt
 
-module _ (bases : List RuleForm) (preds : ℕ) (empty lists : MoverLists) (places : HasPlaces preds empty) (whole : KeepsMembers empty lists)
+module _ (bases : List RuleForm) (preds : ℕ) (empty lists : OccurrenceLists) (places : HasPlaces preds empty) (whole : KeepsMembers empty lists)
     (range : (q n : ℕ) (rule : RuleForm) → slice_get (closed_set bases) n ≡ Some rule → StandsIn q rule → q < preds)
     (rules : AreRulesNoted (length bases) bases lists)
     (heads : AreHeadsNoted (length (closed_entries bases)) (closed_entries bases) lists) where
@@ -215,13 +215,13 @@ module _ (bases : List RuleForm) (preds : ℕ) (empty lists : MoverLists) (place
       → HasMember (member e.base place) (list_for lists head) → IsMovedBySomeOf bases (list_for lists head) n
   found-by head n e place at ne has = record {
     at = has.at;
-    mover = has.mover;
+    occurrence = has.occurrence;
     there = has.there;
     moved = record {
       entry = e;
       there = at;
       base = sym has.rule;
-      other = others-move place e.conjunct has.mover.moving ne has.among;
+      other = others-move place e.conjunct has.occurrence.moving ne has.among;
     };
   }
 
@@ -241,8 +241,8 @@ module _ (bases : List RuleForm) (preds : ℕ) (empty lists : MoverLists) (place
       (heads n e (slice_get-below (closed_entries bases) n e at) at (subst HasTwice (sym is.head) sees.1) head listed
       (subst (λ h. MayTell h head) (sym is.head) sees.0))
 
-  pub movers-are : AreMovers bases lists
-  movers-are head n rule found sees =
+  pub occurrences-are : AreOccurrences bases lists
+  occurrences-are head n rule found sees =
       let kept : AllZip (IsEntry bases) (closed_set bases) (closed_entries bases) = entries-kept bases
       in let below : n < length (closed_entries bases)
       = omega (arith, slice_get-below (closed_set bases) n rule found, zip-length (IsEntry bases) (closed_set bases) (closed_entries bases) kept)
@@ -333,11 +333,11 @@ families-next count entries e lists old new is at put before = record {
 pub entry-count : (bases : List RuleForm) → length (closed_set bases) ≡ length (closed_entries bases)
 entry-count bases = zip-length (IsEntry bases) (closed_set bases) (closed_entries bases) (entries-kept bases)
 
-pub are-moved_by : (bases : List Rule) (lists : MoverLists) (families : List (List ℕ)) (entries : List Entry) (read : List Rule) (given : List Entry)
+pub are-moved_by : (bases : List Rule) (lists : OccurrenceLists) (families : List (List ℕ)) (entries : List Entry) (read : List Rule) (given : List Entry)
     → read ≡ bases → given ≡ entries → map entry_of entries ≡ closed_entries (map rule_of bases)
-    → AreMovers (map rule_of read) lists → AreFamilies (length given) (map entry_of given) families → AreMovedBy bases lists families
-are-moved_by bases lists families entries read given same is kept movers grouped = record {
-  seen = subst (λ (rs : List Rule). AreMovers (map rule_of rs) lists) same movers;
+    → AreOccurrences (map rule_of read) lists → AreFamilies (length given) (map entry_of given) families → AreMovedBy bases lists families
+are-moved_by bases lists families entries read given same is kept occurrences grouped = record {
+  seen = subst (λ (rs : List Rule). AreOccurrences (map rule_of rs) lists) same occurrences;
   grouped = subst (λ (es : List EntryForm). AreFamilies (length (rules_of bases)) es families) kept
       (subst (λ count. AreFamilies count (map entry_of entries) families) count
       (subst (λ (es : List Entry). AreFamilies (length es) (map entry_of es) families) is grouped));
@@ -346,9 +346,9 @@ are-moved_by bases lists families entries read given same is kept movers grouped
     count : length entries ≡ length (rules_of bases)
     count = sym (length-map entries entry_of) ∙ ap length kept ∙ sym (entry-count (map rule_of bases))
 
-module _ (bases : List Rule) (lists : MoverLists) (families : List (List ℕ)) (by : AreMovedBy bases lists families) where
-  pub family-has : (mover : Mover) (n : ℕ) → IsMovedOf (map rule_of bases) mover n → Contains (slice_index_or families mover.rule []) n
-  family-has mover n moved =
+module _ (bases : List Rule) (lists : OccurrenceLists) (families : List (List ℕ)) (by : AreMovedBy bases lists families) where
+  pub family-has : (occurrence : Occurrence) (n : ℕ) → IsMovedOf (map rule_of bases) occurrence n → Contains (slice_index_or families occurrence.rule []) n
+  family-has occurrence n moved =
       subst (λ b. Contains (slice_index_or families b []) n) moved.base
       (by.grouped.there n moved.entry
       (omega (arith, slice_get-below (closed_entries (map rule_of bases)) n moved.entry moved.there, entry-count (map rule_of bases)))
@@ -383,18 +383,18 @@ base-within bases read entries given same is kept n e at =
 
 -- ---- loops that are over
 
-pub conjuncts-done : (count all number : ℕ) (forms : List Form) (old new : MoverLists) → all ≤ count
+pub conjuncts-done : (count all number : ℕ) (forms : List Form) (old new : OccurrenceLists) → all ≤ count
     → AreConjunctsNoted count number forms old new → AreConjunctsNoted all number forms old new
 conjuncts-done count all number forms old new done before = record {
   kept = before.kept;
   noted = λ k f head below at listed moves. before.noted k f head (omega (arith, below, done)) at listed moves;
 }
 
-pub rules-done : (count all : ℕ) (rules : List RuleForm) (lists : MoverLists) → all ≤ count → AreRulesNoted count rules lists
+pub rules-done : (count all : ℕ) (rules : List RuleForm) (lists : OccurrenceLists) → all ≤ count → AreRulesNoted count rules lists
     → AreRulesNoted all rules lists
 rules-done count all rules lists done before n rule below at = before n rule (omega (arith, below, done)) at
 
-pub heads-done : (count all : ℕ) (entries : List EntryForm) (lists : MoverLists) → all ≤ count → AreHeadsNoted count entries lists
+pub heads-done : (count all : ℕ) (entries : List EntryForm) (lists : OccurrenceLists) → all ≤ count → AreHeadsNoted count entries lists
     → AreHeadsNoted all entries lists
 heads-done count all entries lists done before n e below at = before n e (omega (arith, below, done)) at
 

@@ -9,19 +9,13 @@ use Rattle.tv_model.specs.declared.formula.Var.{Var}
 use Rattle.tv_model.specs.Form.{Form, IsFree}
 use Rattle.tv_model.specs.Program.{HeadForm, HNever, HAtom, HSame, RuleForm}
 use Rattle.tv_model.specs.Rules.{IsFreeInRule}
-use Rattle.tv_rules.specs.Closing.{is_free, is_in_head}
+use Rattle.tv_model.specs.Free.{is_free}
+use Rattle.tv_rules.specs.Closing.{is_in_head}
 use Rattle.tv_rules.specs.EntryForms.{numbers_of, AreFreeIn, HasMoreFree}
 use Rattle.tv_rules.specs.Flags.{has_twice}
 use Rattle.tv_rules.specs.Standing.{HasTwice}
-use Rattle.tv_rules.proofs.Free.{free-from, from-free, in_head-from, from-in_head}
-
-pub is_free-answer : (v : ℕ) (f : Form) (b : Bool) → IsTrue b ↔ IsFree v f → b ≡ is_free v f
-is_free-answer v f b answer = same b (is_free v f) (λ t. from-free v f (answer.0 t)) (λ t. answer.1 (free-from v f t))
-  where
-    same : (b c : Bool) → (b ≡ true → c ≡ true) → (c ≡ true → b ≡ true) → b ≡ c
-    same true c to back = sym (to refl)
-    same false true to back = back refl
-    same false false to back = refl
+use Rattle.tv_model.proofs.FreeTests.{free-from, from-free}
+use Rattle.tv_rules.proofs.Free.{in_head-from, from-in_head}
 
 pub free_in_rule-then : (v : ℕ) (rule : RuleForm) (b : Bool) → b ≡ is_free v rule.body → b ≡ true → IsTrue b ↔ IsFreeInRule v rule
 free_in_rule-then v rule b is t = (λ _. inl (free-from v rule.body (sym is ∙ t)), λ _. t)

@@ -10,7 +10,8 @@ use Rattle.tv_model.specs.Valid.{IsValid, IsRule, IsFormulaOver}
 use Rattle.tv_kleene.specs.declared.K3.TheVariants.{Yes}
 use Rattle.tv_embedding_laws.specs.LogicalStructure.{LogicalStructure}
 use Rattle.tv_eval_laws.specs.Value.{value}
-use Rattle.tv_rules.specs.Closing.{is_free, is_in_head, conjuncts, puttings, swaps, base_rules, dropped_rule}
+use Rattle.tv_model.specs.Free.{is_free}
+use Rattle.tv_rules.specs.Closing.{is_in_head, conjuncts, puttings, swaps, base_rules, dropped_rule}
 use Rattle.tv_rules.specs.Closing.{further_rules, closed_rules}
 
 -- a concrete heap that meets the program meets each of its closed rules

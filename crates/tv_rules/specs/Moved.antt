@@ -5,9 +5,10 @@ use Rattle.tv_model.specs.Form.{Form}
 use Rattle.tv_model.specs.Program.{HeadForm, RuleForm, rule_of}
 use Rattle.tv_model.specs.declared.program.Rule.{Rule}
 use Rattle.tv_coerce_moves.specs.declared.list.Member.{Member}
-use Rattle.tv_coerce_moves.specs.declared.list.Mover.{Mover}
+use Rattle.tv_coerce_moves.specs.declared.list.Occurrence.{Occurrence}
 use Rattle.tv_coerce_moves.specs.Moves.{MayMove, MayTell}
-use Rattle.tv_coerce_moves.specs.Movers.{HasMember, IsListed, KeepsMembers, MoverLists, MovesOther, list_for}
+use Rattle.tv_coerce_moves.specs.Occurrences.{HasMember, IsListed, KeepsMembers, OccurrenceLists, MovesOther}
+use Rattle.tv_coerce_moves.specs.Occurrences.{list_for}
 use Rattle.tv_rules.specs.Closing.{conjuncts, negated_head, closed_set}
 use Rattle.tv_rules.specs.EntryForms.{EntryForm, closed_entries, rules_of}
 use Rattle.tv_rules.specs.Kin.{base_in}
@@ -29,56 +30,56 @@ other_place (Some k) = None
 
 -- the first of the rule's conjuncts are noted, so many of them
 pub record AreConjunctsNoted (count : ℕ) (number : ℕ) (forms : List Form)
-    (old new : MoverLists) : Type 0 where
+    (old new : OccurrenceLists) : Type 0 where
   pub kept : KeepsMembers old new
   pub noted : (k : ℕ) (f : Form) (head : HeadForm) → k < count → slice_get forms k ≡ Some f
       → IsListed head old → MayMove head true f → HasMember (member number (Some k)) (list_for new head)
 
 -- the rule's members are noted for each change that may make them greater, where there is a list for it
-abbrev pub IsRuleNoted : ℕ → RuleForm → MoverLists → Type 0
+abbrev pub IsRuleNoted : ℕ → RuleForm → OccurrenceLists → Type 0
 IsRuleNoted number rule lists =
     (place : Option ℕ) (f : Form) (head : HeadForm) → member_at place rule ≡ Some f → IsListed head lists
     → MayMove head true f → HasMember (member number place) (list_for lists head)
 
 -- those of the first rules are, of so many of them
-abbrev pub AreRulesNoted : (count : ℕ) → List RuleForm → MoverLists → Type 0
+abbrev pub AreRulesNoted : (count : ℕ) → List RuleForm → OccurrenceLists → Type 0
 AreRulesNoted count rules lists =
     (n : ℕ) (rule : RuleForm) → n < count → slice_get rules n ≡ Some rule → IsRuleNoted n rule lists
 
 -- a head that has one variable twice is noted for each change that may make it known
-abbrev pub IsHeadNoted : MoverLists → EntryForm → Type 0
+abbrev pub IsHeadNoted : OccurrenceLists → EntryForm → Type 0
 IsHeadNoted lists e =
     HasTwice e.head → (head : HeadForm) → IsListed head lists → MayTell e.head head
     → HasMember (member e.base (other_place e.conjunct)) (list_for lists head)
 
 -- those of the first rules are, of so many of them
-abbrev pub AreHeadsNoted : (count : ℕ) → List EntryForm → MoverLists → Type 0
+abbrev pub AreHeadsNoted : (count : ℕ) → List EntryForm → OccurrenceLists → Type 0
 AreHeadsNoted count entries lists =
     (n : ℕ) (e : EntryForm) → n < count → slice_get entries n ≡ Some e → IsHeadNoted lists e
 
--- the closed rule of that number is one of the mover's base rule, and has a member that it moves
-pub record IsMovedOf (bases : List RuleForm) (mover : Mover) (number : ℕ) : Type 0 where
+-- the closed rule of that number is one of the occurrence's base rule, and has a member that it moves
+pub record IsMovedOf (bases : List RuleForm) (occurrence : Occurrence) (number : ℕ) : Type 0 where
   pub entry : EntryForm
   pub there : slice_get (closed_entries bases) number ≡ Some entry
-  pub base : entry.base ≡ mover.rule
-  pub other : MovesOther entry.conjunct mover.moving
+  pub base : entry.base ≡ occurrence.rule
+  pub other : MovesOther entry.conjunct occurrence.moving
 
--- one of the movers moves it
-pub record IsMovedBySomeOf (bases : List RuleForm) (movers : List Mover) (number : ℕ) : Type 0 where
+-- one of the occurrences moves it
+pub record IsMovedBySomeOf (bases : List RuleForm) (occurrences : List Occurrence) (number : ℕ) : Type 0 where
   pub at : ℕ
-  pub mover : Mover
-  pub there : slice_get movers at ≡ Some mover
-  pub moved : IsMovedOf bases mover number
+  pub occurrence : Occurrence
+  pub there : slice_get occurrences at ≡ Some occurrence
+  pub moved : IsMovedOf bases occurrence number
 
-abbrev pub IsMoved : List Rule → Mover → ℕ → Type 0
+abbrev pub IsMoved : List Rule → Occurrence → ℕ → Type 0
 IsMoved bases = IsMovedOf (map rule_of bases)
 
-abbrev pub IsMovedBySome : List Rule → List Mover → ℕ → Type 0
+abbrev pub IsMovedBySome : List Rule → List Occurrence → ℕ → Type 0
 IsMovedBySome bases = IsMovedBySomeOf (map rule_of bases)
 
 -- a closed rule that sees a change has a member that is noted for the change
-abbrev pub AreMovers : List RuleForm → MoverLists → Type 0
-AreMovers bases lists =
+abbrev pub AreOccurrences : List RuleForm → OccurrenceLists → Type 0
+AreOccurrences bases lists =
     (head : HeadForm) (n : ℕ) (rule : RuleForm) → slice_get (closed_set bases) n ≡ Some rule → Sees head rule
     → IsMovedBySomeOf bases (list_for lists head) n
 
@@ -90,6 +91,6 @@ pub record AreFamilies (count : ℕ) (entries : List EntryForm) (families : List
       → (n < count) × (base_in (slice_get entries n) ≡ b)
 
 -- the lists of members and of families that stand beside base rules
-pub record AreMovedBy (bases : List Rule) (lists : MoverLists) (families : List (List ℕ)) : Type 0 where
-  pub seen : AreMovers (map rule_of bases) lists
+pub record AreMovedBy (bases : List Rule) (lists : OccurrenceLists) (families : List (List ℕ)) : Type 0 where
+  pub seen : AreOccurrences (map rule_of bases) lists
   pub grouped : AreFamilies (length (rules_of bases)) (closed_entries (map rule_of bases)) families

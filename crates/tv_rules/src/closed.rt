@@ -26,14 +26,14 @@ use crate::base::base_rules;
 use crate::defined::is_defining;
 use crate::entries::{Entries, Entry, closed_entries};
 use crate::mentioned::rules_with;
-use crate::moved::{families, movers_of};
+use crate::moved::{families, occurrences_of};
 use crate::shapes::{Shapes, shape_of};
 use crate::turns::{Turn, tried_from};
 use crate::watch::{Numbers, seeing_summaries, standing};
 use std::alloc::{AllocError, Global};
 use std::marker::Model;
 use tv_coerce_members::Shape;
-use tv_coerce_moves::{Mover, Movers};
+use tv_coerce_moves::{Occurrence, Occurrences};
 use tv_model::{Formula, Head, Items, Kind, PredId, Program, Rule, Rules, Terms};
 use tv_row::Flags;
 
@@ -49,7 +49,7 @@ pub struct Closed {
     by_pred: Items<Numbers>,
     by_sm: Numbers,
     /// For each change the members of base rules that it may make greater.
-    movers: Movers,
+    occurrences: Occurrences,
     /// For each base rule the numbers of its closed rules.
     families: Items<Numbers>,
     /// The rules that aren't tried first, and those of them that are tried last. Hints, of which nothing is
@@ -75,7 +75,7 @@ impl Model for Closed {
     ghost view = { λ c. c.bases };
 
     ghost invariant = { λ c. AreRuleLists c.bases c.shapes c.entries c.by_pred c.by_sm
-        × AreMovedBy c.bases c.movers c.families };
+        × AreMovedBy c.bases c.occurrences c.families };
 }
 
 /// The closed rules of a valid program, base rules first.
@@ -108,7 +108,7 @@ fn closed_of(alloc: Global, bases: Rules, preds: usize) -> Result<Closed, AllocE
     let entries = closed_entries(alloc, bases.as_slice())?;
     let by_pred = watch_lists(alloc, bases.as_slice(), entries.as_slice(), preds)?;
     let by_sm = seeing_summaries(alloc, bases.as_slice(), entries.as_slice())?;
-    let movers = movers_of(alloc, bases.as_slice(), entries.as_slice(), preds)?;
+    let occurrences = occurrences_of(alloc, bases.as_slice(), entries.as_slice(), preds)?;
     let families = families(alloc, entries.as_slice(), bases.len())?;
     let later = tried_from(alloc, Turn::Later, shapes.as_slice(), entries.as_slice())?;
     let last = tried_from(alloc, Turn::Last, shapes.as_slice(), entries.as_slice())?;
@@ -118,7 +118,7 @@ fn closed_of(alloc: Global, bases: Rules, preds: usize) -> Result<Closed, AllocE
         entries,
         by_pred,
         by_sm,
-        movers,
+        occurrences,
         families,
         later,
         last,
@@ -278,29 +278,29 @@ impl Closed {
 
     /// Base rules with members that the changes which the head asks for may make greater: at least those of
     /// the rules that see such changes.
-    pub fn movers(&self, head: Head) -> &[Mover]
+    pub fn occurrences(&self, head: Head) -> &[Occurrence]
         ensures { (n : ℕ) (rule : RuleForm) → slice_get (rules_of self.now) n ≡ Some rule
             → Sees (head_of head) rule → IsMovedBySome self.now result.now n }
     {
-        self.movers.by_change(head)
+        self.occurrences.by_change(head)
     }
 
-    /// Numbers of closed rules, among them each rule of the mover's base rule that it moves.
-    pub fn family(&self, mover: Mover) -> &[usize]
-        ensures those { (n : ℕ) → IsMoved self.now mover n → Contains result.now n }
+    /// Numbers of closed rules, among them each rule of the occurrence's base rule that it moves.
+    pub fn family(&self, occurrence: Occurrence) -> &[usize]
+        ensures those { (n : ℕ) → IsMoved self.now occurrence n → Contains result.now n }
         ensures within { All (λ n. n < length (rules_of self.now)) result.now }
     {
-        numbers_at(self.families.as_slice(), mover.rule)
+        numbers_at(self.families.as_slice(), occurrence.rule)
     }
 
-    /// False only where the rule, one of the mover's base rule, has no member that the mover moves, but for
-    /// the one that the rule's head denies. That it is true promises nothing.
-    pub fn is_moved(&self, number: usize, mover: Mover) -> bool
+    /// False only where the rule, one of the occurrence's base rule, has no member that the occurrence moves,
+    /// but for the one that the rule's head denies. That it is true promises nothing.
+    pub fn is_moved(&self, number: usize, occurrence: Occurrence) -> bool
         requires { number < length (rules_of self.now) }
-        ensures { IsMoved self.now mover number → IsTrue result }
+        ensures { IsMoved self.now occurrence number → IsTrue result }
     {
         let entry = item_at(self.entries.as_slice(), number);
-        mover.moving.moves_other(entry.conjunct)
+        occurrence.moving.moves_other(entry.conjunct)
     }
 }
 

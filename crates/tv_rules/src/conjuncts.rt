@@ -6,7 +6,8 @@ ghost use Rattle.tv_model.specs.Form.{form_of};
 ghost use Rattle.tv_model.specs.Program.{head_of, rule_of};
 ghost use Rattle.tv_model.specs.Rules.{IsFreeInRule};
 ghost use Rattle.tv_rules.specs.Closing.{dropped, conjuncts, negated, negated_if, negated_head, signed_head};
-ghost use Rattle.tv_rules.specs.Closing.{is_in_head, is_free, may_drop};
+ghost use Rattle.tv_model.specs.Free.{is_free};
+ghost use Rattle.tv_rules.specs.Closing.{is_in_head, may_drop};
 ghost use Rattle.tv_rules.specs.EntryForms.{forms_of};
 
 use std::alloc::{AllocError, Global};

@@ -8,7 +8,7 @@ use Rattle.std.proofs.lemmas.Fmt.{decimal_injective}
 use Rattle.tv_lemmas.proofs.Lists.{range_below}
 use Rattle.tv_model.proofs.Lists.{map-agreed}
 use Rattle.tv_model.specs.declared.program.Pred.{Pred}
-use Rattle.tv_struct.specs.StructureForm.{StructureForm, value_at}
+use Rattle.tv_structure_form.specs.StructureForm.{StructureForm, value_at}
 use Rattle.tv_struct.specs.StructureRows.{unary_row}
 use Rattle.tv_show.specs.Line.{yes_places, is_only, telling, numeral, called}
 use Rattle.tv_show.proofs.Parted.{FreeOf, Opens, free_shut}

@@ -4,3 +4,4 @@ mod Spelt
 mod Told
 mod Walked
 mod Whole
+mod LabelLaws

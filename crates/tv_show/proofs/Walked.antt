@@ -2,7 +2,7 @@
 use Rattle.std.proofs.Common.{◌≡◌, ◌≢◌, ℕ, zero, suc, ◌<◌, ◌≤◌, ◌+◌, ◌-◌, Bool, true, false, List, [], ◌∷◌}
 use Rattle.std.proofs.Common.{◌++◌, map, length}
 use Rattle.std.proofs.Common.{refl, sym, ap, ◌∙◌, arith, if◌then◌else◌, eqb, cond, append_assoc}
-use Rattle.std.specs.Prelude.{codes, drop, slice_index_or, filter}
+use Rattle.std.specs.Prelude.{codes, drop, slice_index_or, filter, Some, None}
 use Rattle.std.specs.List.{flat_map, range_with_len}
 use Rattle.std.proofs.lemmas.List.{append-nil}
 use Rattle.std.proofs.lemmas.List.FromFn.{length-map-range_with_len, get_or-map-range_with_len}
@@ -14,10 +14,11 @@ use Rattle.tv_lemmas.proofs.Lists.{range_more, flat_map-range}
 use Rattle.tv_model.specs.declared.program.Pred.{Pred}
 use Rattle.tv_row.specs.Bits.{is_certain}
 use Rattle.tv_model.specs.declared.program.Vocab.{Vocab}
-use Rattle.tv_struct.specs.StructureForm.{StructureForm, value_at, summary_at}
+use Rattle.tv_structure_form.specs.StructureForm.{StructureForm, value_at, summary_at}
 use Rattle.tv_show.specs.Texts.{marked, joined, valued, arrow_text, of_arity}
-use Rattle.tv_show.specs.Line.{yes_places, is_only, target_text, row_texts, individual_text, opening, closing}
+use Rattle.tv_show.specs.Line.{yes_places, target_text, row_texts, individual_text, opening, closing}
 use Rattle.tv_show.specs.Line.{telling, numbered, unary_texts, node_text, arrow_texts, nullary_texts, line_of}
+use Rattle.tv_show.specs.Named.{only}
 use Rattle.tv_show.specs.Rows.{each_pred, unary_marked, nullary_marked, arrow_marked, row_marked}
 use Rattle.tv_show.specs.Rows.{binary_marked}
 
@@ -136,25 +137,25 @@ module _ (row : List K3) where
   yes_place : (c : ℕ) → slice_index_or row c No ≡ Yes → place c ≡ c ∷ []
   yes_place c is_yes = ap (λ k. if is_certain k then c ∷ [] else []) is_yes
 
-  pub no_yes : (u : ℕ) → ((c : ℕ) → 0 ≤ c → c < length row → slice_index_or row c No ≢ Yes) → is_only u (yes_places row) ≡ false
-  no_yes u none =
+  pub no_yes : ((c : ℕ) → 0 ≤ c → c < length row → slice_index_or row c No ≢ Yes) → only (yes_places row) ≡ None
+  no_yes none =
       let places : [] ≡ flat_map place (range_with_len 0 (length row))
       = none_until place 0 (length row) [] [] (omega arith) (λ c low less. no_place c (none c low less)) refl
-      in ap (is_only u) (sym (places ∙ places_are row (range_with_len 0 (length row))))
+      in ap only (sym (places ∙ places_are row (range_with_len 0 (length row))))
 
   up_to : (first : ℕ) → slice_index_or row first No ≡ Yes → ((c : ℕ) → 0 ≤ c → c < first → slice_index_or row c No ≢ Yes)
       → first ∷ [] ≡ flat_map place (range_with_len 0 (first + 1))
   up_to first is_yes none =
       sym (yes_place first is_yes) ∙ one_further place 0 first [] [] (omega arith) (λ c low less. no_place c (none c low less)) refl
 
-  pub one_yes : (u first : ℕ) → first < length row → slice_index_or row first No ≡ Yes
+  pub one_yes : (first : ℕ) → first < length row → slice_index_or row first No ≡ Yes
       → ((c : ℕ) → 0 ≤ c → c < first → slice_index_or row c No ≢ Yes)
-      → ((c : ℕ) → first + 1 ≤ c → c < length row → slice_index_or row c No ≢ Yes) → is_only u (yes_places row) ≡ eqb first u
-  one_yes u first below is_yes before behind =
+      → ((c : ℕ) → first + 1 ≤ c → c < length row → slice_index_or row c No ≢ Yes) → only (yes_places row) ≡ Some first
+  one_yes first below is_yes before behind =
       let places : first ∷ [] ≡ flat_map place (range_with_len 0 (length row))
       = none_until place (first + 1) (length row) [] (first ∷ []) (omega (arith, below)) (λ c low less. no_place c (behind c low less))
       (up_to first is_yes before)
-      in ap (is_only u) (sym (places ∙ places_are row (range_with_len 0 (length row))))
+      in ap only (sym (places ∙ places_are row (range_with_len 0 (length row))))
 
   longer : (a n : ℕ) (x y : ℕ) (xs : List ℕ) → x ∷ y ∷ xs ≡ flat_map place (range_with_len 0 a)
       → (ys : List ℕ) × (x ∷ y ∷ ys ≡ flat_map place (range_with_len 0 (a + n)))
@@ -164,11 +165,11 @@ module _ (row : List K3) where
       in let rest = longer (a + 1) n x y (xs ++ place a) (turned place [] (x ∷ y ∷ xs) a so_far)
       in (rest.0, rest.1 ∙ ap (λ m. flat_map place (range_with_len 0 m)) e)
 
-  pub two_yes : (u first second : ℕ) → slice_index_or row first No ≡ Yes
+  pub two_yes : (first second : ℕ) → slice_index_or row first No ≡ Yes
       → ((c : ℕ) → 0 ≤ c → c < first → slice_index_or row c No ≢ Yes) → first + 1 ≤ second → second < length row
       → slice_index_or row second No ≡ Yes → ((c : ℕ) → first + 1 ≤ c → c < second → slice_index_or row c No ≢ Yes)
-      → is_only u (yes_places row) ≡ false
-  two_yes u first second is_yes before after below second_yes between =
+      → only (yes_places row) ≡ None
+  two_yes first second is_yes before after below second_yes between =
       let two : (first ∷ []) ++ place second ≡ flat_map place (range_with_len 0 (second + 1))
       = one_further place (first + 1) second [] (first ∷ []) after (λ c low less. no_place c (between c low less)) (up_to first is_yes before)
       in let both : first ∷ second ∷ [] ≡ flat_map place (range_with_len 0 (second + 1))
@@ -176,23 +177,20 @@ module _ (row : List K3) where
       in let all = longer (second + 1) (length row - (second + 1)) first second [] both
       in let e : second + 1 + (length row - (second + 1)) ≡ length row = omega (arith, below)
       in let places = all.1 ∙ ap (λ m. flat_map place (range_with_len 0 m)) e ∙ places_are row (range_with_len 0 (length row))
-      in ap (is_only u) (sym places)
+      in ap only (sym places)
 
 -- ---- the parts of a line, put together
 
 -- an individual with all that is said of it
-pub node_written : (preds : List Pred) (s : StructureForm) (u : ℕ) (f g : Bool) (out opened inside number said : List ℕ)
-    → f ≡ summary_at s u → g ≡ summary_at s u → number ≡ marked (codes "&") (numbered u (telling s u 0 preds))
-    → said ≡ number ++ each_pred 1 (unary_marked s u) 0 preds → opened ≡ out ++ opening f → inside ≡ opened ++ drop 1 said
-    → inside ++ closing g ≡ out ++ node_text preds s u
-node_written preds s u f g out opened inside number said is_f is_g numbers says opens insides =
+pub node_written : (preds : List Pred) (s : StructureForm) (u : ℕ) (f : Bool) (said : List ℕ) → f ≡ summary_at s u
+    → said ≡ marked (codes "&") (numbered u (telling s u 0 preds)) ++ each_pred 1 (unary_marked s u) 0 preds
+    → opening f ++ (drop 1 said ++ closing f) ≡ node_text preds s u
+node_written preds s u f said is_f says =
     let texts : said ≡ marked (codes "&") (numbered u (telling s u 0 preds) ++ unary_texts preds s u)
-    = says ∙ (λ i. numbers i ++ each_marked (codes "&") 1 (λ p name. valued name (value_at s p (u ∷ []))) (unary_marked s u) (λ p name. refl) 0 preds i)
+    = says ∙ (λ i. marked (codes "&") (numbered u (telling s u 0 preds))
+    ++ each_marked (codes "&") 1 (λ p name. valued name (value_at s p (u ∷ []))) (unary_marked s u) (λ p name. refl) 0 preds i)
     ∙ sym (marked_append (codes "&") (numbered u (telling s u 0 preds)) (unary_texts preds s u))
-    in ap (λ t. t ++ closing g) (insides ∙ (λ i. opens i ++ drop 1 (texts i)))
-    ∙ (λ i. ((out ++ opening (is_f i)) ++ joined (numbered u (telling s u 0 preds) ++ unary_texts preds s u)) ++ closing (is_g i))
-    ∙ append_assoc (out ++ opening (summary_at s u)) (joined (numbered u (telling s u 0 preds) ++ unary_texts preds s u)) (closing (summary_at s u))
-    ∙ append_assoc out (opening (summary_at s u)) (joined (numbered u (telling s u 0 preds) ++ unary_texts preds s u) ++ closing (summary_at s u))
+    in (λ i. opening (is_f i) ++ (drop 1 (texts i) ++ closing (is_f i)))
 
 -- the arrows of an individual
 pub arrows_written : (preds : List Pred) (s : StructureForm) (u : ℕ) (targets : List (List ℕ)) (said : List ℕ)

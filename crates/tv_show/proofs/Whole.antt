@@ -14,11 +14,11 @@ use Rattle.tv_model.specs.Valid.{IsPred, IsValid}
 use Rattle.tv_model.specs.declared.program.Pred.{Pred}
 use Rattle.tv_model.specs.declared.program.Program.{Program}
 use Rattle.tv_model.proofs.Parts.{names-same}
-use Rattle.tv_struct.specs.TableForm.{HasEntry}
-use Rattle.tv_struct.specs.StructureForm.{StructureForm, IsStructure, arities_of, table_of, value_at}
-use Rattle.tv_struct.specs.StructureForm.{summary_at, unmarked}
+use Rattle.tv_structure_form.specs.TableForm.{HasEntry}
+use Rattle.tv_structure_form.specs.StructureForm.{StructureForm, IsStructure, arities_of, table_of, value_at}
+use Rattle.tv_structure_form.specs.StructureForm.{summary_at, unmarked}
 use Rattle.tv_struct.specs.StructureRows.{unary_row}
-use Rattle.tv_struct.proofs.StructureLaws.{same_structure}
+use Rattle.tv_structure_form.proofs.StructureLaws.{same_structure}
 use Rattle.tv_show.specs.Texts.{marked, joined, valued, arrow_text, of_arity}
 use Rattle.tv_show.specs.Line.{opening, closing, telling, called, numbered, unary_texts, node_text}
 use Rattle.tv_show.specs.Line.{target_text, row_texts, arrow_texts, individual_text, nullary_texts}

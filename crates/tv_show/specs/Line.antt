@@ -7,7 +7,7 @@ use Rattle.tv_kleene.specs.declared.K3.TheVariants.{No}
 use Rattle.tv_model.specs.declared.program.Pred.{Pred}
 use Rattle.tv_model.specs.declared.program.Vocab.{Vocab}
 use Rattle.tv_row.specs.Bits.{is_certain}
-use Rattle.tv_struct.specs.StructureForm.{StructureForm, value_at, summary_at}
+use Rattle.tv_structure_form.specs.StructureForm.{StructureForm, value_at, summary_at}
 use Rattle.tv_struct.specs.StructureRows.{unary_row}
 use Rattle.tv_show.specs.Texts.{marked, joined, valued, arrow_text, of_arity}
 

@@ -5,7 +5,7 @@ use Rattle.std.specs.List.{flat_map, range_with_len}
 use Rattle.tv_kleene.specs.declared.K3.{K3}
 use Rattle.tv_kleene.specs.declared.K3.TheVariants.{No}
 use Rattle.tv_model.specs.declared.program.Pred.{Pred}
-use Rattle.tv_struct.specs.StructureForm.{StructureForm, value_at}
+use Rattle.tv_structure_form.specs.StructureForm.{StructureForm, value_at}
 use Rattle.tv_struct.specs.StructureRows.{row_at}
 use Rattle.tv_show.specs.Texts.{marked, valued, arrow_text}
 

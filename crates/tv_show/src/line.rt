@@ -1,14 +1,14 @@
 //! A structure in one line.
 
-ghost use Rattle.std.specs.Prelude.{◌≡◌, ◌<◌, ◌≤◌, ◌++◌, ◌==◌, ◌&&◌, [], IfOk, OnOk, Some, length, map, drop};
+ghost use Rattle.std.specs.Prelude.{◌≡◌, ◌<◌, ◌≤◌, ◌++◌, ◌==◌, [], IfOk, OnOk, Some, length, map, drop};
 ghost use Rattle.std.specs.Prelude.{codes, slice_get, if◌then◌else◌};
 ghost use Rattle.std.specs.List.{flat_map, range_with_len};
 ghost use Rattle.std.specs.Option.{option_map};
-ghost use Rattle.tv_struct.specs.StructureForm.{IsOver, arities_of};
-ghost use Rattle.tv_struct.specs.StructureRows.{unary_row};
+ghost use Rattle.tv_structure_form.specs.StructureForm.{IsOver, arities_of};
 ghost use Rattle.tv_show.specs.Texts.{marked, valued};
-ghost use Rattle.tv_show.specs.Line.{opening, closing, yes_places, is_only, telling, numbered, numeral};
-ghost use Rattle.tv_show.specs.Line.{node_text, target_text, individual_text, line_of};
+ghost use Rattle.tv_show.specs.Line.{opening, closing, yes_places, telling, numbered, numeral};
+ghost use Rattle.tv_show.specs.Line.{target_text, individual_text, line_of};
+ghost use Rattle.tv_show.specs.Named.{AreLabels, only, told, all_told, is_at, named};
 ghost use Rattle.tv_show.specs.Rows.{each_pred, unary_marked, nullary_marked, arrow_marked, row_marked};
 ghost use Rattle.tv_show.specs.Rows.{binary_marked};
 
@@ -61,38 +61,61 @@ fn append_joined(out: &mut Vec<u8>, texts: &[u8]) -> Result<(), AllocError>
     out.extend_from_slice(&texts[texts.len().min(1)..])
 }
 
-/// Whether the value is `Yes` at `u` and at no other place.
-fn is_only(row: &Row, u: u32) -> bool
-    ensures { result ≡ is_only u (yes_places row.now) }
+/// The place at which the value is `Yes`, where there is exactly one.
+fn only_yes(row: &Row) -> Option<u32>
+    ensures { result ≡ only (yes_places row.now) }
 {
     let _ = row.size();
     match row.next_yes(0) {
-        None => false,
+        None => None,
         Some(first) => match row.next_yes(first + 1) {
-            None => first == u,
-            Some(_) => false,
+            None => Some(first),
+            Some(_) => None,
         },
     }
 }
 
-/// Whether the predicate is unary, and `Yes` of the individual and of no other.
-fn tells(s: &Structure, p: PredId, pred: &Pred, u: u32) -> bool
+/// The individual of which alone the predicate is `Yes`, where it is unary and there is one.
+fn told(s: &Structure, p: PredId, pred: &Pred) -> Option<u32>
     requires { slice_get (arities_of s.now) p.0 ≡ Some pred.now.arity }
-    ensures { result ≡ (pred.now.arity == 1 && is_only u (yes_places (unary_row s.now p.0))) }
+    ensures { result ≡ told s.now p.0 pred.now.arity }
 {
-    pred.arity == 1 && is_only(&s.unary_row(p), u)
+    if pred.arity != 1 {
+        return None;
+    }
+    only_yes(&s.unary_row(p))
 }
 
-/// The name of the first unary predicate that is `Yes` of the individual and of no other.
-fn telling<'a>(preds: &'a [Pred], s: &Structure, u: u32) -> Option<&'a [u8]>
+/// The individuals that the predicates tell from all others, predicate by predicate.
+fn all_told(alloc: Global, preds: &[Pred], s: &Structure) -> Result<Vec<Option<u32>>, AllocError>
     requires over { arities_of s.now ≡ map (λ pred. pred.arity) preds.now }
     requires count { length preds.now ≤ 512 }
-    ensures { option_map (λ name. name.now) result ≡ telling s.now u 0 preds.now }
+    ensures { IfOk result (λ all. all.items ≡ all_told s.now 0 preds.now) }
+{
+    let mut all = Vec::with_capacity(alloc, preds.len())?;
+    for p in 0..preds.len() {
+        all.push(told(s, PredId(p as u32), &preds[p]))?;
+    }
+    Ok(all)
+}
+
+fn is_at(u: u32, told: Option<u32>) -> bool
+    ensures { result ≡ is_at u told }
+{
+    match told {
+        None => false,
+        Some(w) => w == u,
+    }
+}
+
+/// The name of the first predicate that tells the individual from the others.
+fn telling<'a>(preds: &'a [Pred], told: &[Option<u32>], u: u32) -> Option<&'a [u8]>
+    requires { length told.now ≡ length preds.now }
+    ensures { option_map (λ name. name.now) result ≡ named u preds.now told.now }
 {
     for p in 0..preds.len() {
-        let pred = &preds[p];
-        if tells(s, PredId(p as u32), pred, u) {
-            return Some(pred.name.as_slice());
+        if is_at(u, told[p]) {
+            return Some(preds[p].name.as_slice());
         }
     }
     None
@@ -106,16 +129,29 @@ fn append_numeral(out: &mut Vec<u8>, u: u32) -> Result<(), AllocError>
     out.extend_from_slice(digits.format(u).as_bytes())
 }
 
+/// Of each predicate, the individual that it tells from all others, and what each individual is called.
+#[derive(Drop)]
+pub struct Labels {
+    pub told: Vec<Option<u32>>,
+    pub targets: Names,
+}
+
 /// What the individual is called, in its parentheses.
-fn target(alloc: Global, preds: &[Pred], s: &Structure, u: u32) -> Result<Bytes, AllocError>
-    requires over { arities_of s.now ≡ map (λ pred. pred.arity) preds.now }
-    requires count { length preds.now ≤ 512 }
+#[tactic(auto, using(crate::proofs::LabelLaws::named_telling, crate::proofs::LabelLaws::told_long))]
+fn target(
+    alloc: Global,
+    preds: &[Pred],
+    told: &[Option<u32>],
+    s: &Structure,
+    u: u32,
+) -> Result<Bytes, AllocError>
+    requires told { told.now ≡ all_told s.now 0 preds.now }
     requires individual { u < s.now.size }
     ensures { IfOk result (λ text. text ≡ target_text preds.now s.now u) }
 {
     let mut text = Vec::new(alloc);
     append_opening(&mut text, s.summary(u))?;
-    match telling(preds, s, u) {
+    match telling(preds, told, u) {
         None => append_numeral(&mut text, u)?,
         Some(name) => text.extend_from_slice(name)?,
     }
@@ -123,27 +159,46 @@ fn target(alloc: Global, preds: &[Pred], s: &Structure, u: u32) -> Result<Bytes,
     Ok(Items::from_vec(text))
 }
 
-/// The same of all individuals.
-fn targets(alloc: Global, preds: &[Pred], s: &Structure) -> Result<Names, AllocError>
-    requires over { arities_of s.now ≡ map (λ pred. pred.arity) preds.now }
-    requires count { length preds.now ≤ 512 }
+/// What all individuals are called.
+fn targets(
+    alloc: Global,
+    preds: &[Pred],
+    told: &[Option<u32>],
+    s: &Structure,
+) -> Result<Names, AllocError>
+    requires { told.now ≡ all_told s.now 0 preds.now }
     ensures { IfOk result (λ texts. texts ≡ map (target_text preds.now s.now) (range_with_len 0 s.now.size)) }
 {
     let mut texts = Names::new(alloc);
     for u in 0..s.size() {
-        texts.push(target(alloc, preds, s, u)?)?;
+        texts.push(target(alloc, preds, told, s, u)?)?;
     }
     Ok(texts)
 }
 
-/// Appends the individual's number behind `&`, where no predicate tells it from the others.
-fn append_number(out: &mut Vec<u8>, preds: &[Pred], s: &Structure, u: u32) -> Result<(), AllocError>
+/// What the individuals of the structure are called.
+fn name_all(alloc: Global, preds: &[Pred], s: &Structure) -> Result<Labels, AllocError>
     requires over { arities_of s.now ≡ map (λ pred. pred.arity) preds.now }
     requires count { length preds.now ≤ 512 }
-    ensures { OnOk result (out.new.items
-        ≡ out.old.items ++ marked (codes "&") (numbered u (telling s.now u 0 preds.now))) }
+    ensures { IfOk result (λ labels. AreLabels preds.now s.now labels) }
 {
-    if telling(preds, s, u).is_some() {
+    let told = all_told(alloc, preds, s)?;
+    let targets = targets(alloc, preds, told.as_slice(), s)?;
+    Ok(Labels { told, targets })
+}
+
+/// Appends the individual's number behind `&`, where no predicate tells it from the others.
+fn append_number(
+    out: &mut Vec<u8>,
+    preds: &[Pred],
+    told: &[Option<u32>],
+    u: u32,
+) -> Result<(), AllocError>
+    requires { length told.now ≡ length preds.now }
+    ensures { OnOk result
+        (out.new.items ≡ out.old.items ++ marked (codes "&") (numbered u (named u preds.now told.now))) }
+{
+    if telling(preds, told, u).is_some() {
         return Ok(());
     }
     out.extend_from_slice(b"&")?;
@@ -188,25 +243,35 @@ fn append_unaries(
     Ok(())
 }
 
-/// Appends the individual with all that is said of it. What is said is put together in `said`.
-fn append_node(
-    out: &mut Vec<u8>,
+/// Puts together in `said` what is said of the individual.
+#[tactic(auto, using(crate::proofs::LabelLaws::named_telling, crate::proofs::LabelLaws::told_long))]
+fn say(
     said: &mut Vec<u8>,
     preds: &[Pred],
+    told: &[Option<u32>],
     s: &Structure,
     u: u32,
 ) -> Result<(), AllocError>
     requires over { arities_of s.now ≡ map (λ pred. pred.arity) preds.now }
     requires count { length preds.now ≤ 512 }
+    requires told { told.now ≡ all_told s.now 0 preds.now }
     requires individual { u < s.now.size }
-    ensures { OnOk result (out.new.items ≡ out.old.items ++ node_text preds.now s.now u) }
+    ensures { OnOk result (said.new.items ≡ marked (codes "&") (numbered u (telling s.now u 0 preds.now))
+        ++ each_pred 1 (unary_marked s.now u) 0 preds.now) }
 {
     said.clear();
-    append_number(said, preds, s, u)?;
-    append_unaries(said, preds, s, u)?;
-    append_opening(out, s.summary(u))?;
-    append_joined(out, said.as_slice())?;
-    append_closing(out, s.summary(u))
+    append_number(said, preds, told, u)?;
+    append_unaries(said, preds, s, u)
+}
+
+/// Appends an individual with what is said of it.
+fn append_node(out: &mut Vec<u8>, said: &[u8], summary: bool) -> Result<(), AllocError>
+    ensures { OnOk result
+        (out.new.items ≡ out.old.items ++ (opening summary ++ (drop 1 said.now ++ closing summary))) }
+{
+    append_opening(out, summary)?;
+    append_joined(out, said)?;
+    append_closing(out, summary)
 }
 
 /// Appends the arrow of a value, behind `&`; nothing of `No`.
@@ -290,22 +355,23 @@ fn append_arrows(
 fn append_individual(
     out: &mut Vec<u8>,
     said: &mut Vec<u8>,
-    targets: &[Bytes],
+    labels: &Labels,
     preds: &[Pred],
     s: &Structure,
     u: u32,
 ) -> Result<(), AllocError>
     requires over { arities_of s.now ≡ map (λ pred. pred.arity) preds.now }
     requires count { length preds.now ≤ 512 }
-    requires targets { targets.now ≡ map (target_text preds.now s.now) (range_with_len 0 s.now.size) }
+    requires labels { AreLabels preds.now s.now labels.now }
     requires individual { u < s.now.size }
     ensures { OnOk result
         (out.new.items ≡ out.old.items ++ (codes "  " ++ individual_text preds.now s.now u)) }
 {
     out.extend_from_slice(b"  ")?;
-    append_node(out, said, preds, s, u)?;
+    say(said, preds, labels.told.as_slice(), s, u)?;
+    append_node(out, said.as_slice(), s.summary(u))?;
     said.clear();
-    append_arrows(said, targets, preds, s, u)?;
+    append_arrows(said, labels.targets.as_slice(), preds, s, u)?;
     append_joined(out, said.as_slice())
 }
 
@@ -321,10 +387,10 @@ fn append_individuals(
     ensures { OnOk result (out.new.items ≡ out.old.items
         ++ flat_map (λ u. codes "  " ++ individual_text preds.now s.now u) (range_with_len 0 s.now.size)) }
 {
-    let targets = targets(alloc, preds, s)?;
+    let labels = name_all(alloc, preds, s)?;
     let mut said = Vec::new(alloc);
     for u in 0..s.size() {
-        append_individual(out, &mut said, targets.as_slice(), preds, s, u)?;
+        append_individual(out, &mut said, &labels, preds, s, u)?;
     }
     Ok(())
 }

@@ -18,7 +18,7 @@ use Rattle.tv_plang_laws.specs.Laws.{MemoriesStay, NullsAreTold, SourceRunsAreRu
 use Rattle.tv_plang_laws.specs.Steps.{State, position}
 use Rattle.tv_source_laws.specs.Covers.{IsSourceRun, IsWarned, CoversSource}
 use Rattle.tv_source_laws.specs.Laws.{CoveredRunsCoverSources}
-use Rattle.tv_struct.specs.StructureForm.{StructureForm}
+use Rattle.tv_structure_form.specs.StructureForm.{StructureForm}
 use Rattle.tv_step_laws.specs.Closed.{CoversRuns, HasLine}
 
 -- there is a line for a message, or there is none

@@ -9,7 +9,7 @@ use Rattle.tv_plang_laws.specs.Compiled.{compiled, node_at}
 use Rattle.tv_plang_laws.specs.Heaps.{IsMemory, IsHeapOfMemory}
 use Rattle.tv_plang_laws.specs.Laws.{AreHeapsOf, MeetsNull}
 use Rattle.tv_plang_laws.specs.Steps.{State, position, GoThrough, IsAtStart}
-use Rattle.tv_struct.specs.StructureForm.{StructureForm}
+use Rattle.tv_structure_form.specs.StructureForm.{StructureForm}
 use Rattle.tv_step_laws.specs.Closed.{HasLine}
 use Rattle.tv_step_laws.specs.Sound.{IsHeapOfSome}
 

@@ -6,7 +6,7 @@ use Rattle.tv_source.specs.Forms.{SourceForm}
 use Rattle.tv_source.specs.Valid.{IsSource}
 use Rattle.tv_plang_laws.specs.Compiled.{compiled, IsSmall}
 use Rattle.tv_source_laws.specs.Covers.{CoversSource}
-use Rattle.tv_struct.specs.StructureForm.{StructureForm}
+use Rattle.tv_structure_form.specs.StructureForm.{StructureForm}
 use Rattle.tv_step_laws.specs.Closed.{CoversRuns}
 
 -- what covers the runs of the compiled program, in either mode, covers those of the source program

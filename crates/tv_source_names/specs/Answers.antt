@@ -4,7 +4,7 @@ use Rattle.tv_source_names.specs.declared.error.SourceReadError.{SourceReadError
 use Rattle.tv_source_names.specs.declared.error.SourceReadError.TheVariants.{TooDeep, Syntax, Reserved}
 use Rattle.tv_source_names.specs.declared.error.SourceReadError.TheVariants.{NameTwice, NameUnknown, Memory}
 
--- what is refused is what the meaning refuses; want of memory says nothing
+-- what is refused is what the meaning refuses; lack of memory says nothing
 abbrev pub RefusesSource : {X : Type 0} → SourceReadError → Result X SourceReadError → Type 0
 RefusesSource TooDeep meaning = ⊥
 RefusesSource (Syntax place) meaning = ⊥

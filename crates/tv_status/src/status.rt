@@ -27,7 +27,7 @@ pub enum Role {
     Source,
 }
 
-/// What is wrong with a file. Want of memory and a failed read are no faults of a file: where a reader's
+/// What is wrong with a file. Lack of memory and a failed read are no faults of a file: where a reader's
 /// own type has a variant for them, the statuses `Memory` and `ReadFault` stand for it.
 #[derive(Clone, Copy, Debug, PartialEq, Eq)]
 pub enum FileKind {
@@ -82,7 +82,7 @@ pub enum Status {
 impl Status {
     /// The exit code of the process: 0 for a job that is done, 1 for a rejected report and for a replay that
     /// is stuck, 2 for words that spell no command, 3 for a faulty file, 4 for a budget that is passed, 5 and
-    /// 6 for faults of reading and of writing, 7 for want of memory.
+    /// 6 for faults of reading and of writing, 7 for lack of memory.
     pub fn code(&self) -> u8
         ensures { result ≡ code_of self.now }
     {

@@ -18,7 +18,7 @@ use Rattle.tv_update_laws.proofs.Preconditions.{free-occurs}
 use Rattle.tv_eval.specs.Along.{values_along}
 use Rattle.tv_eval.specs.AssignmentForm.{IsAssigned}
 use Rattle.tv_eval.specs.Formulas.{AreAssigned}
-use Rattle.tv_struct.specs.StructureForm.{StructureForm, structure_of, arities_of}
+use Rattle.tv_structure_form.specs.StructureForm.{StructureForm, structure_of, arities_of}
 use Rattle.tv_update_laws.proofs.Picks.{isnt-no}
 use Rattle.tv_step_laws.specs.Shaped.{IsShaped}
 use Rattle.tv_step.specs.Allowed.{precondition_values}

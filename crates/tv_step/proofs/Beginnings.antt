@@ -5,7 +5,7 @@ use Rattle.tv_model.specs.Program.{RuleForm, program_of}
 use Rattle.tv_model.specs.Valid.{IsValid}
 use Rattle.tv_rules.specs.Closing.{closed_rules}
 use Rattle.tv_stable_laws.specs.Stable.{HasNoStable}
-use Rattle.tv_struct.specs.StructureForm.{StructureForm, IsStructure, structure_of}
+use Rattle.tv_structure_form.specs.StructureForm.{StructureForm, IsStructure, structure_of}
 use Rattle.tv_blur.specs.Blur.{IsBlur}
 use Rattle.tv_blur.specs.Names.{abstraction_preds}
 use Rattle.tv_coerce.specs.Coerced.{IsCoercedTable, CoercesTo}

@@ -7,7 +7,7 @@ use Rattle.tv_model.specs.Program.{ProgramForm, ActionForm}
 use Rattle.tv_update_laws.specs.Picks.{picks_of, passing_picks}
 use Rattle.tv_focus.specs.Stage.{IsWithinLimits as KeepsStageLimits}
 use Rattle.tv_update.specs.Update.{IsWithinLimits}
-use Rattle.tv_struct.specs.StructureForm.{StructureForm, structure_of}
+use Rattle.tv_structure_form.specs.StructureForm.{StructureForm, structure_of}
 use Rattle.tv_struct.specs.declared.analysis.StageError.{StageError}
 use Rattle.tv_struct.specs.declared.analysis.StageError.TheVariants.{Splits, Individuals, Memory}
 use Rattle.tv_step_laws.specs.Budgets.{HasTurn, IsFocused, IsPassed, HasManyFoci, HasManyPicks, HasManyKept}

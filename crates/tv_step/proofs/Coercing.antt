@@ -5,7 +5,7 @@ use Rattle.tv_model.specs.Program.{ProgramForm, RuleForm}
 use Rattle.tv_stable_laws.specs.Stable.{IsGreatestStable, HasNoStable}
 use Rattle.tv_rules.specs.Closing.{closed_rules}
 use Rattle.tv_rules.specs.EntryForms.{rules_of}
-use Rattle.tv_struct.specs.StructureForm.{StructureForm, IsStructure, structure_of}
+use Rattle.tv_structure_form.specs.StructureForm.{StructureForm, IsStructure, structure_of}
 use Rattle.tv_eval.specs.ScratchForm.{ScratchForm}
 use Rattle.tv_coerce.specs.Ready.{CanCoerce}
 use Rattle.tv_coerce.proofs.Ready.{closed_rules_can_be_tried}

@@ -18,9 +18,10 @@ use Rattle.tv_stable_laws.specs.Laws.{IsPlainRule}
 use Rattle.tv_stable_laws.specs.Stable.{IsStable, IsStableUnder}
 use Rattle.tv_rules.specs.Closing.{closed_rules}
 use Rattle.tv_rules.proofs.Ranges.{rules_are_plain}
-use Rattle.tv_struct.specs.StructureForm.{StructureForm, structure_of, arities_of, value_at, summary_at}
+use Rattle.tv_structure_form.specs.StructureForm.{StructureForm, structure_of, arities_of, value_at}
+use Rattle.tv_structure_form.specs.StructureForm.{summary_at}
 use Rattle.tv_struct.specs.StructureRows.{summary_row, flag_value}
-use Rattle.tv_struct.proofs.Library.{Contains-range, fits_or_No}
+use Rattle.tv_structure_form.proofs.Library.{Contains-range, fits_or_No}
 use Rattle.tv_coerce.specs.RuleSets.{IsStableBut}
 use Rattle.tv_coerce_sets.specs.Turned.{AreAlike, HasSameValues}
 use Rattle.tv_coerce_sets.specs.Unmet.{WaitsAmong, set_of}

@@ -10,7 +10,7 @@ use Rattle.tv_rules.specs.Closing.{closed_rules}
 use Rattle.tv_rules.specs.EntryForms.{rules_of}
 use Rattle.tv_coerce.specs.Coerced.{CoercesTo}
 use Rattle.tv_stable_laws.specs.Stable.{IsStable}
-use Rattle.tv_struct.specs.StructureForm.{StructureForm, IsOver, IsStructure, structure_of}
+use Rattle.tv_structure_form.specs.StructureForm.{StructureForm, IsOver, IsStructure, structure_of}
 use Rattle.tv_struct.specs.declared.analysis.StageError.{StageError}
 use Rattle.tv_step_laws.specs.Shaped.{IsShaped}
 use Rattle.tv_step_laws.specs.Transfer.{Coerces, IsActionOf, focus_places}

@@ -14,7 +14,7 @@ use Rattle.tv_model.specs.Valid.{IsMessage}
 use Rattle.tv_model.proofs.Lists.{Contains-none}
 use Rattle.tv_eval_laws.specs.Value.{value}
 use Rattle.tv_row.proofs.Greatest.{greatest-append}
-use Rattle.tv_struct.specs.StructureForm.{StructureForm, structure_of}
+use Rattle.tv_structure_form.specs.StructureForm.{StructureForm, structure_of}
 use Rattle.tv_eval.specs.AssignmentForm.{individual_for, assignment_of}
 use Rattle.tv_eval.specs.Formulas.{AreAssigned}
 use Rattle.tv_eval.specs.ScratchForm.{ScratchForm, HasScratchFor}

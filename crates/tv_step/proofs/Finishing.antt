@@ -6,7 +6,7 @@ use Rattle.tv_model.specs.Program.{ProgramForm, RuleForm, pred_of, program_of}
 use Rattle.tv_model.specs.Valid.{program_arities}
 use Rattle.tv_model.proofs.Lists.{map-compose}
 use Rattle.tv_rules.specs.Closing.{closed_rules}
-use Rattle.tv_struct.specs.StructureForm.{StructureForm, IsStructure, arities_of, kept_from}
+use Rattle.tv_structure_form.specs.StructureForm.{StructureForm, IsStructure, arities_of, kept_from}
 use Rattle.tv_blur.specs.Blur.{IsBlur}
 use Rattle.tv_blur.specs.Names.{abstraction_preds}
 use Rattle.tv_coerce.specs.Coerced.{IsCoercedTable, CoercesTo}

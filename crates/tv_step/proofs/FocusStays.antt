@@ -23,8 +23,8 @@ use Rattle.tv_rules.specs.Standing.{StandsIn, SeesSummaries}
 use Rattle.tv_rules.proofs.Ranges.{rules_are_plain}
 use Rattle.tv_coerce_laws.specs.Split.{KeepsValues, IsRuleOfTuples}
 use Rattle.tv_coerce_laws.proofs.Splits.{splits_are_stable}
-use Rattle.tv_struct.specs.StructureForm.{StructureForm, structure_of, arities_of, value_at}
-use Rattle.tv_struct.proofs.Library.{AreIndividuals-range, Contains-range, below-range}
+use Rattle.tv_structure_form.specs.StructureForm.{StructureForm, structure_of, arities_of, value_at}
+use Rattle.tv_structure_form.proofs.Library.{AreIndividuals-range, Contains-range, below-range}
 use Rattle.tv_focus_laws.specs.FocusAtoms.{AtomForm, focus_atoms}
 use Rattle.tv_focus_laws.specs.Choices.{AimForm, ChoiceForm, MemberForm, SplitForm, Nothing, Whole, Each}
 use Rattle.tv_focus_laws.specs.Choices.{choices, chosen, definite, focused_value, member_at, members}

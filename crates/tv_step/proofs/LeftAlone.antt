@@ -37,9 +37,10 @@ use Rattle.tv_rules.proofs.Ranges.{rules_are_plain}
 use Rattle.tv_rules.specs.Standing.{StandsIn}
 use Rattle.tv_coerce_laws.specs.Split.{IsUntouched}
 use Rattle.tv_coerce_laws.proofs.Untouched.{untouched_rules_stay_stable}
-use Rattle.tv_struct.specs.StructureForm.{StructureForm, structure_of, summary_at, value_at}
-use Rattle.tv_struct.specs.TableForm.{AreIndividuals}
-use Rattle.tv_struct.proofs.Library.{All-individuals, AreIndividuals-range, Contains-range, below-range}
+use Rattle.tv_structure_form.specs.StructureForm.{StructureForm, structure_of, summary_at, value_at}
+use Rattle.tv_structure_form.specs.TableForm.{AreIndividuals}
+use Rattle.tv_structure_form.proofs.Library.{All-individuals, AreIndividuals-range, Contains-range}
+use Rattle.tv_structure_form.proofs.Library.{below-range}
 use Rattle.tv_update_laws.specs.Applied.{kind_at, update_at, used_update, new_value, keep_value, IsMiddleOf}
 use Rattle.tv_update_laws.specs.Applied.{defined_value, moves_individuals, IsNew}
 use Rattle.tv_update_laws.specs.Choices.{choices_of, stays_in, AreGiven}

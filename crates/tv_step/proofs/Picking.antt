@@ -22,12 +22,12 @@ use Rattle.tv_model.proofs.Lists.{Contains-map, Contains-flat_map, Contains-filt
 use Rattle.tv_model.proofs.Lists.{Contains-filter_back, All-from_contains, slice_get-contains}
 use Rattle.tv_model.proofs.Parts.{first-occurs}
 use Rattle.tv_eval_laws.proofs.Rounds.{range-push}
-use Rattle.tv_struct.proofs.Library.{Contains-range, below-range}
+use Rattle.tv_structure_form.proofs.Library.{Contains-range, below-range}
 use Rattle.tv_eval.specs.AssignmentForm.{IsAssigned}
 use Rattle.tv_eval.specs.Formulas.{AreAssigned}
 use Rattle.tv_eval.specs.ScratchForm.{program_height}
 use Rattle.tv_eval.proofs.Programs.{within_height}
-use Rattle.tv_struct.specs.StructureForm.{StructureForm, IsStructure, structure_of}
+use Rattle.tv_structure_form.specs.StructureForm.{StructureForm, IsStructure, structure_of}
 use Rattle.tv_struct.specs.declared.analysis.StageError.{StageError}
 use Rattle.tv_struct.specs.declared.analysis.StageError.TheVariants.{Splits, Individuals, Memory}
 use Rattle.tv_update_laws.specs.Choices.{AreGiven}

@@ -13,7 +13,7 @@ use Rattle.tv_coerce.specs.RuleSets.{HasFewer, IsIn}
 use Rattle.tv_rules.specs.Defining.{IsOfDefinition}
 use Rattle.tv_rules.specs.EntryForms.{rules_of}
 use Rattle.tv_rules.proofs.DefinedValues.{defined_values_are_stable}
-use Rattle.tv_struct.specs.StructureForm.{StructureForm}
+use Rattle.tv_structure_form.specs.StructureForm.{StructureForm}
 use Rattle.tv_update_laws.specs.Applied.{kind_at}
 use Rattle.tv_step.specs.Changed.{IsFew}
 use Rattle.tv_step.specs.Redefined.{AreDefining, AreOfDefinitions, IsListed, IsMetBy, IsOfRedefined}

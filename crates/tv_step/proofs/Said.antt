@@ -7,7 +7,7 @@ use Rattle.tv_model.specs.declared.program.Mode.{Mode}
 use Rattle.tv_model.specs.Program.{ProgramForm, ActionForm}
 use Rattle.tv_model.specs.Valid.{IsValid}
 use Rattle.tv_model.proofs.Lists.{All-from_contains}
-use Rattle.tv_struct.specs.StructureForm.{StructureForm, IsStructure}
+use Rattle.tv_structure_form.specs.StructureForm.{StructureForm, IsStructure}
 use Rattle.tv_struct.specs.declared.analysis.StageError.{StageError}
 use Rattle.tv_step_laws.specs.Settled.{IsSettled}
 use Rattle.tv_step_laws.specs.Transfer.{Coerces, AreAtHand, AreResults, AreMessageValues, IsActionOf}

@@ -12,7 +12,7 @@ use Rattle.std.proofs.lemmas.List.Filters.{dedup_is}
 use Rattle.std.proofs.lemmas.List.Kept.{Any-dedup, Contains-from_dedup, IsStrictlySortedBy-dedup}
 use Rattle.std.proofs.lemmas.List.Sorted.{Contains-permutation, IsPermutation-sym}
 use Rattle.tv_struct.specs.Order.{structure_cmp, structure_cmp_total}
-use Rattle.tv_struct.specs.StructureForm.{StructureForm, unmarked}
+use Rattle.tv_structure_form.specs.StructureForm.{StructureForm, unmarked}
 use Rattle.tv_struct.proofs.OrderLaws.{structure_cmp-Equal}
 
 -- structures without marks are equal where they compare as equal

@@ -14,8 +14,8 @@ use Rattle.tv_model.proofs.Lists.{All-from_contains, Contains-map_back, Contains
 use Rattle.tv_model.proofs.Lists.{slice_get-contains}
 use Rattle.tv_eval.proofs.Programs.{within_height}
 use Rattle.tv_struct.specs.Order.{structure_cmp}
-use Rattle.tv_struct.specs.StructureForm.{StructureForm, IsStructure}
-use Rattle.tv_struct.proofs.Library.{below-range}
+use Rattle.tv_structure_form.specs.StructureForm.{StructureForm, IsStructure}
+use Rattle.tv_structure_form.proofs.Library.{below-range}
 use Rattle.tv_step_laws.specs.Parts.{AreFrom}
 use Rattle.tv_step_laws.specs.Shaped.{IsShaped}
 use Rattle.tv_step_laws.specs.Transfer.{FocusPlace, places_in, focus_places, Coerces, Focuses, Finishes}

@@ -21,7 +21,7 @@ use Rattle.tv_model.specs.declared.formula.Formula.{Formula}
 use Rattle.tv_model.specs.Form.{Form, form_of}
 use Rattle.tv_model.specs.Program.{ProgramForm}
 use Rattle.tv_model.specs.Valid.{IsFormula}
-use Rattle.tv_struct.specs.StructureForm.{StructureForm, arities_of}
+use Rattle.tv_structure_form.specs.StructureForm.{StructureForm, arities_of}
 use Rattle.tv_step_laws.specs.Parts.{AreFrom}
 use Rattle.tv_step_laws.specs.Shaped.{IsShaped}
 use Rattle.tv_step_laws.specs.Transfer.{FocusPlace, places_in, focus_places, choices_at, IsTableOf, Coerces}

@@ -1,7 +1,7 @@
 -- What is at hand of a structure along an edge, before the edge's action picks and updates.
 use Rattle.std.specs.Prelude.{ℕ, List, Result, IfOk, IfErr, All}
 use Rattle.tv_model.specs.Program.{ProgramForm, ActionForm}
-use Rattle.tv_struct.specs.StructureForm.{StructureForm}
+use Rattle.tv_structure_form.specs.StructureForm.{StructureForm}
 use Rattle.tv_struct.specs.declared.analysis.StageError.{StageError}
 use Rattle.tv_struct.specs.declared.analysis.StageError.TheVariants.{Splits, Individuals, Memory}
 use Rattle.tv_step_laws.specs.Budgets.{HasManyFoci, HasLargeChoice}

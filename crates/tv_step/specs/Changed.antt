@@ -2,7 +2,7 @@
 use Rattle.std.specs.Prelude.{ℕ, ◌≡◌, ◌⊎◌, ◌++◌, Bool, false, List, length, map, Option, None, Some, Contains}
 use Rattle.tv_model.specs.declared.formula.PredId.{PredId}
 use Rattle.tv_model.specs.Program.{ProgramForm, ActionForm, RuleForm}
-use Rattle.tv_struct.specs.StructureForm.{StructureForm}
+use Rattle.tv_structure_form.specs.StructureForm.{StructureForm}
 use Rattle.tv_coerce.specs.RuleSets.{IsStableBut}
 use Rattle.tv_coerce_sets.specs.Turned.{AreAlike, HasSameValues}
 use Rattle.tv_update_laws.specs.Applied.{moves_individuals}

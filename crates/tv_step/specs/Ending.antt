@@ -4,7 +4,7 @@ use Rattle.tv_model.specs.declared.program.Program.{Program}
 use Rattle.tv_model.specs.Program.{ProgramForm}
 use Rattle.tv_blur.specs.Blur.{IsBlur}
 use Rattle.tv_blur.specs.Names.{abstraction_preds}
-use Rattle.tv_struct.specs.StructureForm.{StructureForm, IsStructure}
+use Rattle.tv_structure_form.specs.StructureForm.{StructureForm, IsStructure}
 use Rattle.tv_step_laws.specs.Transfer.{Coerces}
 use Rattle.tv_step.specs.Steps.{Ends}
 use Rattle.tv_step.specs.declared.coerced.Ending.{Ending}

@@ -5,7 +5,7 @@ use Rattle.tv_model.specs.declared.program.Rule.{Rule}
 use Rattle.tv_embedding_laws.specs.LogicalStructure.{LogicalStructure}
 use Rattle.tv_rules.specs.Defining.{HasDefinedValues, IsOfDefinition}
 use Rattle.tv_stable_laws.specs.Stable.{IsStableUnder}
-use Rattle.tv_struct.specs.StructureForm.{StructureForm, structure_of}
+use Rattle.tv_structure_form.specs.StructureForm.{StructureForm, structure_of}
 use Rattle.tv_update_laws.specs.Applied.{kind_at}
 use Rattle.tv_step.specs.declared.changed.Redefined.{Redefined}
 

@@ -5,7 +5,7 @@ use Rattle.tv_model.specs.Valid.{IsValid}
 use Rattle.tv_rules.specs.Closing.{closed_rules}
 use Rattle.tv_rules.specs.EntryForms.{rules_of}
 use Rattle.tv_stable_laws.specs.Stable.{IsStable}
-use Rattle.tv_struct.specs.StructureForm.{StructureForm, structure_of}
+use Rattle.tv_structure_form.specs.StructureForm.{StructureForm, structure_of}
 use Rattle.tv_eval.specs.ScratchForm.{ScratchForm, IsMadeFor}
 use Rattle.tv_step.specs.declared.setting.Setting.{Setting}
 

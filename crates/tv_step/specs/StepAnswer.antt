@@ -2,7 +2,7 @@
 use Rattle.std.specs.Prelude.{ℕ, Result, IfOk, IfErr, OnOk, All}
 use Rattle.tv_model.specs.declared.program.Mode.{Mode}
 use Rattle.tv_model.specs.Program.{ProgramForm}
-use Rattle.tv_struct.specs.StructureForm.{StructureForm}
+use Rattle.tv_structure_form.specs.StructureForm.{StructureForm}
 use Rattle.tv_struct.specs.declared.analysis.StageError.{StageError}
 use Rattle.tv_step_laws.specs.Budgets.{KeepsBudgets, IsStepCause}
 use Rattle.tv_step_laws.specs.Settled.{IsSettled}

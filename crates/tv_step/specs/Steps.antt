@@ -12,7 +12,7 @@ use Rattle.tv_eval.specs.ScratchForm.{program_height}
 use Rattle.tv_focus_laws.specs.FocusAtoms.{focus_atoms}
 use Rattle.tv_focus.specs.Stage.{IsWithinLimits as KeepsStageLimits}
 use Rattle.tv_struct.specs.Order.{structure_cmp}
-use Rattle.tv_struct.specs.StructureForm.{StructureForm, IsStructure, structure_of}
+use Rattle.tv_structure_form.specs.StructureForm.{StructureForm, IsStructure, structure_of}
 use Rattle.tv_struct.specs.declared.analysis.StageError.{StageError}
 use Rattle.tv_struct.specs.declared.analysis.StageError.TheVariants.{Splits, Individuals, Memory}
 use Rattle.tv_update_laws.specs.Choices.{AreGiven}

@@ -8,7 +8,7 @@ ghost use Rattle.tv_coerce_sets.specs.Unmet.{WaitsAmong};
 ghost use Rattle.tv_model.specs.Valid.{IsValid};
 ghost use Rattle.tv_rules.specs.Closing.{closed_rules};
 ghost use Rattle.tv_rules.specs.EntryForms.{rules_of};
-ghost use Rattle.tv_struct.specs.StructureForm.{arities_of};
+ghost use Rattle.tv_structure_form.specs.StructureForm.{arities_of};
 ghost use Rattle.tv_step.specs.Changed.{DiffersWithin, IsFew};
 ghost use Rattle.tv_step.specs.Redefined.{IsMetBy, IsOfRedefined};
 ghost use Rattle.tv_step.specs.Setting.{form_in, IsStableIn};

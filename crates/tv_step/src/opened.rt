@@ -6,7 +6,7 @@ ghost use Rattle.tv_model.specs.Program.{program_of};
 ghost use Rattle.tv_model.specs.Valid.{IsValid};
 ghost use Rattle.tv_rules.specs.Closing.{closed_rules};
 ghost use Rattle.tv_rules.specs.EntryForms.{rules_of};
-ghost use Rattle.tv_struct.specs.StructureForm.{StructureForm, IsOver};
+ghost use Rattle.tv_structure_form.specs.StructureForm.{StructureForm, IsOver};
 ghost use Rattle.tv_step_laws.specs.Settled.{IsSettled};
 ghost use Rattle.tv_step_laws.specs.Transfer.{IsOpening, HasNoOpening};
 ghost use Rattle.tv_step.specs.Starts.{HasStarts};
@@ -21,7 +21,7 @@ use tv_struct::Structure;
 
 /// The opening of a structure: the greatest stable structure below it, blurred; none exactly where no stable
 /// structure lies below. It is settled, and each heap of the program that embeds in the structure embeds in
-/// it. The only error is want of memory.
+/// it. The only error is lack of memory.
 pub fn opening(
     alloc: Global,
     program: &Program,

@@ -3,7 +3,7 @@
 ghost use Rattle.std.specs.Prelude.{◌≡◌, ◌↔◌, All, Contains, None, IfOk};
 ghost use Rattle.std.specs.List.Sorted.{IsStrictlySortedBy};
 ghost use Rattle.tv_struct.specs.Order.{structure_cmp};
-ghost use Rattle.tv_struct.specs.StructureForm.{StructureForm};
+ghost use Rattle.tv_structure_form.specs.StructureForm.{StructureForm};
 
 use std::alloc::AllocError;
 use tv_struct::Structures;

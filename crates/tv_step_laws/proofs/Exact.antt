@@ -23,10 +23,11 @@ use Rattle.tv_embedding_laws.specs.LogicalStructure.{LogicalStructure}
 use Rattle.tv_embedding_laws.specs.Embedding.{IsBelow, IsBelowByValues}
 use Rattle.tv_embedding_laws.proofs.EmbeddingLaws.{IsBelow-values}
 use Rattle.tv_struct.specs.Order.{structure_cmp, structure_cmp_total}
-use Rattle.tv_struct.specs.TableForm.{AreIndividuals}
-use Rattle.tv_struct.specs.StructureForm.{StructureForm, structure_of, arities_of, value_at, summary_at}
-use Rattle.tv_struct.proofs.Library.{Contains-range, All-individuals}
-use Rattle.tv_struct.proofs.StructureLaws.{IsFull, same_full}
+use Rattle.tv_structure_form.specs.TableForm.{AreIndividuals}
+use Rattle.tv_structure_form.specs.StructureForm.{StructureForm, structure_of, arities_of, value_at}
+use Rattle.tv_structure_form.specs.StructureForm.{summary_at}
+use Rattle.tv_structure_form.proofs.Library.{Contains-range, All-individuals}
+use Rattle.tv_structure_form.proofs.StructureLaws.{IsFull, same_full}
 use Rattle.tv_update_laws.specs.Picks.{picks_of, passing_picks}
 use Rattle.tv_update_laws.specs.Tables.{SaysSame}
 use Rattle.tv_update_laws.proofs.OneTables.{given_tables_are_one}

@@ -37,9 +37,9 @@ use Rattle.tv_rules.specs.Closing.{closed_rules}
 use Rattle.tv_rules.proofs.MetByHeaps.{closed_rules_are_met}
 use Rattle.tv_rules.proofs.Ranges.{rules_are_plain}
 use Rattle.tv_row.proofs.Extremes.{any_possible}
-use Rattle.tv_struct.specs.TableForm.{AreIndividuals}
-use Rattle.tv_struct.specs.StructureForm.{StructureForm, structure_of, arities_of, value_at}
-use Rattle.tv_struct.proofs.Library.{below-range, AreIndividuals-range}
+use Rattle.tv_structure_form.specs.TableForm.{AreIndividuals}
+use Rattle.tv_structure_form.specs.StructureForm.{StructureForm, structure_of, arities_of, value_at}
+use Rattle.tv_structure_form.proofs.Library.{below-range, AreIndividuals-range}
 use Rattle.tv_focus_laws.specs.Tables.{Shows}
 use Rattle.tv_focus_laws.proofs.Stages.{stages_lose_no_heap}
 use Rattle.tv_focus_laws.proofs.Tables.{Fits, fits-or_No}

@@ -18,7 +18,7 @@ use Rattle.tv_embedding_laws.specs.LogicalStructure.{heap_structure}
 use Rattle.tv_embedding_laws.specs.Embedding.{IsHeapOf}
 use Rattle.tv_embedding_laws.proofs.EmbeddingLaws.{EmbedsOn-compose}
 use Rattle.tv_listing.specs.ListingForm.{at_node}
-use Rattle.tv_struct.specs.StructureForm.{StructureForm, structure_of}
+use Rattle.tv_structure_form.specs.StructureForm.{StructureForm, structure_of}
 use Rattle.tv_listing.specs.declared.analysis.MessageLine.{MessageLine}
 use Rattle.tv_step_laws.specs.Transfer.{AreResults, AreMessageValues, message_value}
 use Rattle.tv_step_laws.specs.Closed.{IsCovered, HasLine, IsOpened, IsFollowed, IsClosed}

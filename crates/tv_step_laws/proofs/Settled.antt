@@ -8,7 +8,7 @@ use Rattle.tv_embedding_laws.proofs.EmbeddingLaws.{EmbedsOn-id}
 use Rattle.tv_stable_laws.specs.Stable.{IsStable, IsGreatestStable}
 use Rattle.tv_rules.specs.Closing.{closed_rules}
 use Rattle.tv_rules.proofs.Ranges.{rules_are_plain}
-use Rattle.tv_struct.specs.StructureForm.{StructureForm, IsStructure, structure_of}
+use Rattle.tv_structure_form.specs.StructureForm.{StructureForm, IsStructure, structure_of}
 use Rattle.tv_blur.proofs.BlurLaws.{blur_stable, keeps_names}
 use Rattle.tv_step_laws.specs.Settled.{IsSettled}
 use Rattle.tv_step_laws.specs.Shaped.{IsShaped, telling_preds}

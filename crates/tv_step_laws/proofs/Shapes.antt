@@ -4,7 +4,7 @@ use Rattle.tv_model.specs.declared.program.Program.{Program}
 use Rattle.tv_model.specs.Program.{pred_of, program_of}
 use Rattle.tv_model.specs.Valid.{program_arities}
 use Rattle.tv_model.proofs.Lists.{map-compose}
-use Rattle.tv_struct.specs.StructureForm.{StructureForm, IsStructure, IsOver}
+use Rattle.tv_structure_form.specs.StructureForm.{StructureForm, IsStructure, IsOver}
 use Rattle.tv_step_laws.specs.Shaped.{IsShaped}
 
 -- the arities of a program are those of its vocabulary

@@ -1,7 +1,7 @@
 -- Budgets of a step: how many choices one stage may have, and how many individuals one structure.
 use Rattle.std.specs.Prelude.{ℕ, ◌≡◌, ◌⊎◌, ◌<◌, List, ◌∷◌, ◌++◌, length, Any, Contains}
 use Rattle.tv_model.specs.Program.{ProgramForm, ActionForm}
-use Rattle.tv_struct.specs.StructureForm.{StructureForm, structure_of}
+use Rattle.tv_structure_form.specs.StructureForm.{StructureForm, structure_of}
 use Rattle.tv_struct.specs.declared.analysis.StageError.{StageError}
 use Rattle.tv_struct.specs.declared.analysis.StageError.TheVariants.{Splits, Individuals, Memory}
 use Rattle.tv_update_laws.specs.Picks.{picks_of, lists_of, passing_picks}

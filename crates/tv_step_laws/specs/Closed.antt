@@ -11,7 +11,7 @@ use Rattle.tv_model.specs.Run.{Stage, IsRun, Brings}
 use Rattle.tv_model.specs.Truth.{Truth}
 use Rattle.tv_embedding_laws.specs.Embedding.{IsEmbedded}
 use Rattle.tv_listing.specs.ListingForm.{at_node}
-use Rattle.tv_struct.specs.StructureForm.{StructureForm, structure_of}
+use Rattle.tv_structure_form.specs.StructureForm.{StructureForm, structure_of}
 use Rattle.tv_listing.specs.declared.analysis.MessageLine.{MessageLine}
 use Rattle.tv_step_laws.specs.Sound.{IsHeapOfSome, IsMessageOf}
 use Rattle.tv_step_laws.specs.Transfer.{IsOpening, HasNoOpening, AreResults, IsMessageValue}

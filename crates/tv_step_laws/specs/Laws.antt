@@ -6,7 +6,7 @@ use Rattle.tv_model.specs.Heap.{Heap}
 use Rattle.tv_model.specs.Program.{ProgramForm}
 use Rattle.tv_model.specs.Valid.{IsValid}
 use Rattle.tv_embedding_laws.specs.Embedding.{IsHeapOf}
-use Rattle.tv_struct.specs.StructureForm.{StructureForm, structure_of}
+use Rattle.tv_structure_form.specs.StructureForm.{StructureForm, structure_of}
 use Rattle.tv_listing.specs.declared.analysis.MessageLine.{MessageLine}
 use Rattle.tv_step_laws.specs.Transfer.{AreResults, AreMessageValues, IsOpening, HasNoOpening}
 use Rattle.tv_step_laws.specs.Closed.{IsClosed, CoversRuns}

@@ -2,7 +2,7 @@
 use Rattle.tv_model.specs.Program.{ProgramForm}
 use Rattle.tv_stable_laws.specs.Stable.{IsStable}
 use Rattle.tv_rules.specs.Closing.{closed_rules}
-use Rattle.tv_struct.specs.StructureForm.{StructureForm, IsStructure, structure_of}
+use Rattle.tv_structure_form.specs.StructureForm.{StructureForm, IsStructure, structure_of}
 use Rattle.tv_blur.specs.Blur.{IsBlurred}
 use Rattle.tv_step_laws.specs.Shaped.{IsShaped, telling_preds}
 

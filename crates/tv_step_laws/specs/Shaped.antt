@@ -2,8 +2,8 @@
 use Rattle.std.specs.Prelude.{ℕ, ◌≡◌, ◌==◌, ◌&&◌, Bool, List, length, map, All}
 use Rattle.tv_model.specs.Program.{ProgramForm, PredForm}
 use Rattle.tv_model.specs.Valid.{program_arities}
-use Rattle.tv_struct.specs.TableForm.{IsPlane}
-use Rattle.tv_struct.specs.StructureForm.{StructureForm, arities_of, kept_from}
+use Rattle.tv_structure_form.specs.TableForm.{IsPlane}
+use Rattle.tv_structure_form.specs.StructureForm.{StructureForm, arities_of, kept_from}
 
 -- the structure is one over the program's predicates: it has a value for each tuple of each of them, and
 -- nothing else. It may have any number of individuals

@@ -11,7 +11,7 @@ use Rattle.tv_model.specs.Run.{IsStart}
 use Rattle.tv_model.specs.Step.{FairStep}
 use Rattle.tv_model.specs.Truth.{Truth}
 use Rattle.tv_embedding_laws.specs.Embedding.{IsHeapOf}
-use Rattle.tv_struct.specs.StructureForm.{StructureForm, structure_of}
+use Rattle.tv_structure_form.specs.StructureForm.{StructureForm, structure_of}
 use Rattle.tv_step_laws.specs.Transfer.{IsActionOf}
 
 -- the heap embeds in one of the structures

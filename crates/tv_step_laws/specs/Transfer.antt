@@ -17,7 +17,7 @@ use Rattle.tv_stable_laws.specs.Stable.{IsGreatestStable, HasNoStable}
 use Rattle.tv_rules.specs.Closing.{closed_rules}
 use Rattle.tv_row.specs.Bits.{greatest_in}
 use Rattle.tv_struct.specs.Order.{structure_cmp}
-use Rattle.tv_struct.specs.StructureForm.{StructureForm, structure_of}
+use Rattle.tv_structure_form.specs.StructureForm.{StructureForm, structure_of}
 use Rattle.tv_focus_laws.specs.FocusAtoms.{focus_atoms}
 use Rattle.tv_focus_laws.specs.Stages.{stage}
 use Rattle.tv_focus_laws.specs.Tables.{Shows}

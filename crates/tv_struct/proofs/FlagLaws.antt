@@ -11,8 +11,8 @@ use Rattle.std.proofs.lemmas.List.FromFn.{length-map-range_with_len, get_or-map-
 use Rattle.tv_kleene.specs.declared.K3.{K3}
 use Rattle.tv_kleene.specs.declared.K3.TheVariants.{No, Half, Yes}
 use Rattle.tv_row.specs.Bits.{is_possible, value_cmp}
-use Rattle.tv_struct.specs.TableForm.{selected}
-use Rattle.tv_struct.specs.StructureForm.{StructureForm, summary_at}
+use Rattle.tv_structure_form.specs.TableForm.{selected}
+use Rattle.tv_structure_form.specs.StructureForm.{StructureForm, summary_at}
 use Rattle.tv_struct.specs.StructureRows.{flag_value, flags_of, summary_row}
 
 pub flags_none : (n : ℕ) → flags_of (replicate n No) ≡ replicate n false

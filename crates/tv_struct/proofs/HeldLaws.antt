@@ -17,9 +17,11 @@ use Rattle.tv_row.specs.Places.{AreWords, word_at, value_in, with_value, row_of}
 use Rattle.tv_row.specs.Packed.{cells_for}
 use Rattle.tv_row.proofs.PackedLaws.{IsEnough, cells_enough, cells_fill, fills_some}
 use Rattle.tv_row.proofs.PlaceLaws.{length-row_of, get_or-row_of, no_value, put_same, put_other}
-use Rattle.tv_struct.specs.TableForm.{PlaneForm, TableForm, IsPlane, IsTable, no_plane, plane_at, row_in}
-use Rattle.tv_struct.specs.TableForm.{column_in, cell, row_count, column_count, plane_of_no, table_of_no}
-use Rattle.tv_struct.specs.TableForm.{table_with_row, arities_in}
+use Rattle.tv_structure_form.specs.TableForm.{PlaneForm, TableForm, IsPlane, IsTable, no_plane, plane_at}
+use Rattle.tv_structure_form.specs.TableForm.{row_in}
+use Rattle.tv_structure_form.specs.TableForm.{column_in, cell, row_count, column_count, plane_of_no}
+use Rattle.tv_structure_form.specs.TableForm.{table_of_no}
+use Rattle.tv_structure_form.specs.TableForm.{table_with_row, arities_in}
 use Rattle.tv_struct.specs.LayoutForm.{LayoutForm, IsLayout, words_for, starts_from, end_from, row_place}
 use Rattle.tv_struct.specs.LayoutForm.{plane_held, planes_held, table_held, NoBeyond, HoldsTable}
 

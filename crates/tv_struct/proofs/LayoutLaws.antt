@@ -4,7 +4,7 @@ use Rattle.std.proofs.Common.{IsTrue, nat_eq, if◌then◌else◌, List, [], ◌
 use Rattle.std.proofs.Common.{ap, ◌∙◌, arith, eqb-true}
 use Rattle.std.specs.Cmp.Lexicographic.{pointwise}
 use Rattle.std.proofs.lemmas.List.{length-take-le, get_or_read}
-use Rattle.tv_struct.specs.TableForm.{row_count}
+use Rattle.tv_structure_form.specs.TableForm.{row_count}
 use Rattle.tv_struct.specs.LayoutForm.{LayoutForm, IsLaid, words_for, starts_from, end_from, row_place}
 use Rattle.tv_struct.proofs.HeldLaws.{words_small, place_small}
 

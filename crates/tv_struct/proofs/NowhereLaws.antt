@@ -10,7 +10,7 @@ use Rattle.tv_kleene.specs.declared.K3.TheVariants.{No, Half, Yes}
 use Rattle.tv_row.specs.Bits.{greatest_in, padded}
 use Rattle.tv_row.proofs.WordOps.{length-padded, get_or-padded}
 use Rattle.tv_row.proofs.Extremes.{any_possible}
-use Rattle.tv_struct.specs.StructureForm.{StructureForm, value_at}
+use Rattle.tv_structure_form.specs.StructureForm.{StructureForm, value_at}
 
 pub no_possible : (row : List K3) → ¬ Any (λ x. x ≢ No) row → (u : ℕ) → get_or row u No ≡ No
 no_possible row none u = ⊎_elim (λ lt. by_kind lt (get_or row u No) refl) (λ past. get_or_past row u No past) (cases_lt u (length row))

@@ -13,8 +13,8 @@ use Rattle.tv_lemmas.proofs.Orderings.{then_equal}
 use Rattle.tv_kleene.specs.declared.K3.TheVariants.{No, Half, Yes}
 use Rattle.tv_row.specs.Bits.{value_cmp}
 use Rattle.tv_struct.specs.Order.{plane_cmp, planes_cmp, structure_cmp, structure_cmp_total}
-use Rattle.tv_struct.specs.StructureForm.{StructureForm, unmarked}
-use Rattle.tv_struct.specs.TableForm.{PlaneForm, no_plane}
+use Rattle.tv_structure_form.specs.StructureForm.{StructureForm, unmarked}
+use Rattle.tv_structure_form.specs.TableForm.{PlaneForm, no_plane}
 
 -- ---- what compares as equal is equal
 

@@ -10,9 +10,11 @@ use Rattle.std.specs.Prelude.{slice_get}
 use Rattle.std.proofs.lemmas.Option.{get_or_from_slice_get}
 use Rattle.tv_kleene.specs.declared.K3.{K3}
 use Rattle.tv_kleene.specs.declared.K3.TheVariants.{No}
-use Rattle.tv_struct.specs.TableForm.{PlaneForm, TableForm, IsTable, no_plane, plane_at, row_in, row_count}
-use Rattle.tv_struct.specs.TableForm.{column_count, plane_of_no, table_with_row, plane_drawn, arities_in}
-use Rattle.tv_struct.specs.TableForm.{selected}
+use Rattle.tv_structure_form.specs.TableForm.{PlaneForm, TableForm, IsTable, no_plane, plane_at, row_in}
+use Rattle.tv_structure_form.specs.TableForm.{row_count}
+use Rattle.tv_structure_form.specs.TableForm.{column_count, plane_of_no, table_with_row, plane_drawn}
+use Rattle.tv_structure_form.specs.TableForm.{arities_in}
+use Rattle.tv_structure_form.specs.TableForm.{selected}
 use Rattle.tv_struct.proofs.RowLaws.{overwritten_more, overwritten_all}
 
 -- the table in which the first i rows of a predicate are these

@@ -14,12 +14,13 @@ use Rattle.std.proofs.lemmas.Option.{slice_get_within, get_or_from_slice_get}
 use Rattle.std.proofs.Math.Seq.{map-set_same}
 use Rattle.tv_kleene.specs.declared.K3.{K3}
 use Rattle.tv_kleene.specs.declared.K3.TheVariants.{No}
-use Rattle.tv_struct.specs.TableForm.{PlaneForm, TableForm, IsPlane, IsTable, row_of, column_of, cell}
-use Rattle.tv_struct.specs.TableForm.{value_in, no_plane, plane_at, row_in, row_count, column_count}
-use Rattle.tv_struct.specs.TableForm.{table_with_row}
-use Rattle.tv_struct.specs.StructureForm.{StructureForm, IsStructure, IsMark, table_of, value_at, arities_of}
+use Rattle.tv_structure_form.specs.TableForm.{PlaneForm, TableForm, IsPlane, IsTable, row_of, column_of, cell}
+use Rattle.tv_structure_form.specs.TableForm.{value_in, no_plane, plane_at, row_in, row_count, column_count}
+use Rattle.tv_structure_form.specs.TableForm.{table_with_row}
+use Rattle.tv_structure_form.specs.StructureForm.{StructureForm, IsStructure, IsMark, table_of, value_at}
+use Rattle.tv_structure_form.specs.StructureForm.{arities_of}
 use Rattle.tv_struct.specs.StructureRows.{HasArity, unary_row, row_at, column_at, with_row}
-use Rattle.tv_struct.proofs.StructureLaws.{value_in-fits}
+use Rattle.tv_structure_form.proofs.StructureLaws.{value_in-fits}
 
 -- ---- rows of tables
 

@@ -6,7 +6,8 @@ use Rattle.std.specs.List.{range_with_len}
 use Rattle.std.proofs.lemmas.List.Elements.{All-head, All-tail}
 use Rattle.std.proofs.lemmas.List.FromFn.{fill_by_all}
 use Rattle.tv_kleene.specs.declared.K3.TheVariants.{No}
-use Rattle.tv_struct.specs.TableForm.{PlaneForm, IsPlane, plane_drawn, row_count, column_count, selected}
+use Rattle.tv_structure_form.specs.TableForm.{PlaneForm, IsPlane, plane_drawn, row_count, column_count}
+use Rattle.tv_structure_form.specs.TableForm.{selected}
 
 -- the elements at all places, in order
 pub all-selected : {X : Type 0} (d : X) (xs : List X) (n : ℕ) → length xs ≡ n

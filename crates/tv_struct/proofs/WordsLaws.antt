@@ -22,7 +22,7 @@ use Rattle.tv_row.specs.Places.{AreWords, HoldsCells, word_at, value_in, row_of,
 use Rattle.tv_row.specs.RowForm.{row_words}
 use Rattle.tv_row.proofs.CompareRows.{words_as_rows}
 use Rattle.tv_row.proofs.PlaceLaws.{length-row_of, get_or-row_of, length-rows_of, get_or-rows_of}
-use Rattle.tv_struct.specs.TableForm.{row_count, column_count}
+use Rattle.tv_structure_form.specs.TableForm.{row_count, column_count}
 use Rattle.tv_struct.specs.LayoutForm.{LayoutForm, HoldsTable, NoBeyond, words_for, end_from, plane_held}
 use Rattle.tv_struct.specs.LayoutForm.{planes_held, table_held}
 use Rattle.tv_struct.specs.Order.{plane_cmp, planes_cmp}

@@ -7,7 +7,7 @@ use Rattle.tv_kleene.specs.declared.K3.{K3}
 use Rattle.tv_kleene.specs.declared.K3.TheVariants.{No}
 use Rattle.tv_row.specs.Packed.{PackedForm, cells_for}
 use Rattle.tv_row.specs.Places.{value_in, row_of}
-use Rattle.tv_struct.specs.TableForm.{PlaneForm, TableForm, row_count, column_count}
+use Rattle.tv_structure_form.specs.TableForm.{PlaneForm, TableForm, row_count, column_count}
 
 -- the number of individuals, and the arity of each predicate
 pub record LayoutForm : Type 0 where

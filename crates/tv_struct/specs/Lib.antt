@@ -1,11 +1,5 @@
-pub mod Halves
-pub mod Laws
 pub mod LayoutForm
-pub mod Lists
 pub mod Order
-pub mod Origins
 pub mod Signature
-pub mod StructureForm
 pub mod StructureRows
-pub mod TableForm
 pub mod TupleForm

@@ -5,8 +5,8 @@ use Rattle.std.specs.Ordering.{nat_cmp, bool_cmp, on, then_cmp}
 use Rattle.std.specs.Cmp.{IsTotalOrder, nat_cmp_total, bool_cmp_total, on_total, then_total}
 use Rattle.std.specs.Cmp.Lexicographic.{slice_cmp, lists_total}
 use Rattle.tv_row.specs.Bits.{rank, value_cmp}
-use Rattle.tv_struct.specs.TableForm.{PlaneForm}
-use Rattle.tv_struct.specs.StructureForm.{StructureForm}
+use Rattle.tv_structure_form.specs.TableForm.{PlaneForm}
+use Rattle.tv_structure_form.specs.StructureForm.{StructureForm}
 
 -- by arity, then tuple by tuple in lexicographic order: row by row, and from column to column
 abbrev pub plane_cmp : PlaneForm → PlaneForm → Ordering

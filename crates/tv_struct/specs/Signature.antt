@@ -5,8 +5,8 @@ use Rattle.tv_row.specs.Mixed.{word_mixed, row_mixed}
 use Rattle.tv_row.specs.Packed.{cells_for, packed}
 use Rattle.tv_row.specs.RowForm.{row_words}
 use Rattle.tv_struct.specs.LayoutForm.{words_for}
-use Rattle.tv_struct.specs.TableForm.{PlaneForm, TableForm}
-use Rattle.tv_struct.specs.StructureForm.{StructureForm, table_of}
+use Rattle.tv_structure_form.specs.TableForm.{PlaneForm, TableForm}
+use Rattle.tv_structure_form.specs.StructureForm.{StructureForm, table_of}
 use Rattle.tv_struct.specs.StructureRows.{summary_row}
 
 -- the words of rows, n words a row

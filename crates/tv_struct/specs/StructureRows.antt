@@ -4,8 +4,8 @@ use Rattle.std.specs.List.{range_with_len}
 use Rattle.tv_kleene.specs.declared.K3.{K3}
 use Rattle.tv_kleene.specs.declared.K3.TheVariants.{No, Half}
 use Rattle.tv_row.specs.Bits.{is_possible}
-use Rattle.tv_struct.specs.TableForm.{table_with_row}
-use Rattle.tv_struct.specs.StructureForm.{StructureForm, table_of, value_at, summary_at, arities_of}
+use Rattle.tv_structure_form.specs.TableForm.{table_with_row}
+use Rattle.tv_structure_form.specs.StructureForm.{StructureForm, table_of, value_at, summary_at, arities_of}
 
 -- the predicate is one of the structure's and has that arity
 abbrev pub HasArity : StructureForm → (pred arity : ℕ) → Type 0

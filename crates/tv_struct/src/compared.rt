@@ -3,7 +3,7 @@
 ghost use Rattle.std.specs.Prelude.{◌≡◌, ◌<◌, ◌≤◌, length};
 ghost use Rattle.std.specs.Cmp.Lexicographic.{slice_cmp};
 ghost use Rattle.tv_row.specs.Bits.{value_cmp};
-ghost use Rattle.tv_struct.specs.TableForm.{plane_at};
+ghost use Rattle.tv_structure_form.specs.TableForm.{plane_at};
 ghost use Rattle.tv_struct.specs.Order.{plane_cmp, planes_cmp};
 
 use crate::planes::Planes;

@@ -4,8 +4,9 @@ ghost use Rattle.std.specs.Prelude.{◌≡◌, ◌<◌, ◌≤◌, ◌==◌, [],
 ghost use Rattle.std.specs.Prelude.{slice_index_or, slice_set, ◌+◌};
 ghost use Rattle.std.specs.List.{range_with_len};
 ghost use Rattle.tv_kleene.specs.declared.K3.TheVariants.{No};
-ghost use Rattle.tv_struct.specs.TableForm.{IsTable, plane_at, plane_drawn, table_drawn, table_with_row};
-ghost use Rattle.tv_struct.specs.TableForm.{row_in, selected, plane_of_no};
+ghost use Rattle.tv_structure_form.specs.TableForm.{IsTable, plane_at, plane_drawn, table_drawn};
+ghost use Rattle.tv_structure_form.specs.TableForm.{table_with_row};
+ghost use Rattle.tv_structure_form.specs.TableForm.{row_in, selected, plane_of_no};
 
 use crate::layout::column_count;
 use crate::planes::Planes;
@@ -69,8 +70,8 @@ impl Planes {
         }
     }
 
-    /// The same where the predicate is `No` everywhere so far: one that is so in the other table is passed
-    /// over.
+    /// Gives the predicate `p`, which is `No` everywhere so far, the values that it has at the origins. One
+    /// that is `No` everywhere in the other table too is passed over.
     fn draw_over(&mut self, source: &Planes, p: PredId, drawing: &Drawing)
         requires table { IsTable self.old }
         requires size { self.old.size ≡ length drawing.now.origins }

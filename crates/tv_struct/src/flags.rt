@@ -7,7 +7,7 @@ ghost use Rattle.std.specs.Cmp.Lexicographic.{slice_cmp};
 ghost use Rattle.std.specs.Ordering.{bool_cmp};
 ghost use Rattle.tv_kleene.specs.declared.K3.TheVariants.{No, Half};
 ghost use Rattle.tv_struct.specs.StructureRows.{flag_value};
-ghost use Rattle.tv_struct.specs.TableForm.{selected};
+ghost use Rattle.tv_structure_form.specs.TableForm.{selected};
 
 use std::cmp::Ordering;
 use std::marker::Model;
@@ -52,7 +52,7 @@ impl Summaries {
         }
     }
 
-    /// The same flags.
+    /// A copy: the flags that these are.
     pub fn copied(&self) -> Summaries
         ensures { result ≡ self.now }
     {
@@ -89,7 +89,7 @@ impl Summaries {
         }
     }
 
-    /// The same flags, and one more that is false.
+    /// These flags, and one more behind them that is false.
     pub fn extended(&self) -> Summaries
         requires { length self.now < 256 }
         ensures { result ≡ selected false self.now (range_with_len 0 (length self.now + 1)) }

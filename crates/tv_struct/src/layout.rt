@@ -3,7 +3,7 @@
 ghost use Rattle.std.specs.Prelude.{◌≡◌, ◌<◌, ◌≤◌, ◌+◌, ◌-◌, ◌*◌, length, map, IfOk, IsTrue, slice_index};
 ghost use Rattle.tv_struct.specs.LayoutForm.{LayoutForm, IsLayout, words_for, starts_from, end_from};
 ghost use Rattle.tv_struct.specs.LayoutForm.{row_place};
-ghost use Rattle.tv_struct.specs.TableForm.{row_count, column_count};
+ghost use Rattle.tv_structure_form.specs.TableForm.{row_count, column_count};
 
 use std::alloc::{AllocError, Global};
 use std::marker::Model;

@@ -2,7 +2,7 @@
 
 ghost use Rattle.std.specs.Prelude.{◌≡◌, ◌<◌, ℕ, [], ◌∷◌, IsTrue};
 ghost use Rattle.tv_kleene.specs.declared.K3.TheVariants.{No};
-ghost use Rattle.tv_struct.specs.StructureForm.{value_at};
+ghost use Rattle.tv_structure_form.specs.StructureForm.{value_at};
 ghost use Rattle.tv_struct.specs.StructureRows.{HasArity};
 
 use crate::structure::Structure;

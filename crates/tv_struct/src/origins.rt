@@ -3,7 +3,7 @@
 ghost use Rattle.std.specs.Prelude.{◌≡◌, ◌<◌, ◌≤◌, ◌+◌, ◌++◌, ◌^◌, length, IfOk, OnErr, OnOk, sum, take};
 ghost use Rattle.std.specs.Prelude.{replicate, [], ◌∷◌, if◌then◌else◌};
 ghost use Rattle.std.specs.List.{range_with_len};
-ghost use Rattle.tv_struct.specs.StructureForm.{kept_from, copies_from};
+ghost use Rattle.tv_structure_form.specs.StructureForm.{kept_from, copies_from};
 
 use std::alloc::{AllocError, Global};
 
@@ -22,7 +22,7 @@ pub fn all_and_next(alloc: Global, size: u32) -> Result<Vec<u32>, AllocError>
 }
 
 /// The individuals whose flag is true, in order.
-#[tactic(auto, using(crate::proofs::OriginLaws::kept_from_more))]
+#[tactic(auto, using(tv_structure_form::proofs::OriginLaws::kept_from_more))]
 pub fn kept(alloc: Global, keep: &[bool]) -> Result<Vec<u32>, AllocError>
     requires { length keep.now ≤ 256 }
     ensures items { IfOk result (λ origins. origins.items ≡ kept_from 0 keep.now) }
@@ -45,7 +45,7 @@ fn push_if(origins: &mut Vec<u32>, u: u32, is_kept: bool) -> Result<(), AllocErr
 }
 
 /// Each individual as often as its part says.
-#[tactic(auto, using(crate::proofs::OriginLaws::copies_from_more))]
+#[tactic(auto, using(tv_structure_form::proofs::OriginLaws::copies_from_more))]
 pub fn copies(alloc: Global, parts: &[u32]) -> Result<Vec<u32>, AllocError>
     requires { length parts.now ≤ 256 }
     ensures items { IfOk result (λ origins. origins.items ≡ copies_from 0 parts.now) }

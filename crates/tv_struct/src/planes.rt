@@ -5,9 +5,11 @@ ghost use Rattle.std.specs.List.{range_with_len};
 ghost use Rattle.std.specs.Prelude.{slice_get};
 ghost use Rattle.std.specs.Prelude.{slice_index_or, slice_set};
 ghost use Rattle.tv_struct.specs.LayoutForm.{IsLayout};
-ghost use Rattle.tv_struct.specs.TableForm.{TableForm, IsTable, table_of_no, table_with_row, plane_at};
-ghost use Rattle.tv_struct.specs.TableForm.{row_in, column_in, row_of, column_of, arities_in, row_count};
-ghost use Rattle.tv_struct.specs.TableForm.{column_count, selected, plane_drawn, plane_of_no};
+ghost use Rattle.tv_structure_form.specs.TableForm.{TableForm, IsTable, table_of_no, table_with_row};
+ghost use Rattle.tv_structure_form.specs.TableForm.{plane_at};
+ghost use Rattle.tv_structure_form.specs.TableForm.{row_in, column_in, row_of, column_of, arities_in};
+ghost use Rattle.tv_structure_form.specs.TableForm.{row_count};
+ghost use Rattle.tv_structure_form.specs.TableForm.{column_count, selected, plane_drawn, plane_of_no};
 ghost use Rattle.std.specs.Prelude.{List, IsTrue};
 ghost use Rattle.tv_kleene.specs.declared.K3.TheVariants.{No};
 ghost use Rattle.tv_row.specs.Mixed.{word_mixed};
@@ -33,7 +35,7 @@ pub struct Planes {
 }
 
 impl Model for Planes {
-    ghost use Rattle.tv_struct.specs.TableForm.{TableForm};
+    ghost use Rattle.tv_structure_form.specs.TableForm.{TableForm};
     ghost use Rattle.tv_struct.specs.LayoutForm.{HoldsPackedTable, table_held};
 
     ghost Value = { TableForm };

@@ -8,12 +8,15 @@ ghost use Rattle.std.specs.Ordering.{eq_by_cmp, as_partial_cmp};
 ghost use Rattle.tv_kleene.specs.declared.K3.TheVariants.{No, Half};
 ghost use Rattle.tv_struct.specs.Order.{structure_cmp, structure_cmp_total};
 ghost use Rattle.tv_struct.specs.Signature.{signature_of};
-ghost use Rattle.tv_struct.specs.StructureForm.{StructureForm, IsStructure, IsMark, IsOver, arities_of};
-ghost use Rattle.tv_struct.specs.StructureForm.{table_of, value_at, summary_at, structure_of_no, with_value};
-ghost use Rattle.tv_struct.specs.StructureForm.{with_summary, with_new, without, split, drawn, unmarked};
+ghost use Rattle.tv_structure_form.specs.StructureForm.{StructureForm, IsStructure, IsMark, IsOver};
+ghost use Rattle.tv_structure_form.specs.StructureForm.{arities_of};
+ghost use Rattle.tv_structure_form.specs.StructureForm.{table_of, value_at, summary_at, structure_of_no};
+ghost use Rattle.tv_structure_form.specs.StructureForm.{with_value};
+ghost use Rattle.tv_structure_form.specs.StructureForm.{with_summary, with_new, without, split, drawn};
+ghost use Rattle.tv_structure_form.specs.StructureForm.{unmarked};
 ghost use Rattle.tv_struct.specs.StructureRows.{HasArity, unary_row, row_at, column_at, summary_row};
 ghost use Rattle.tv_struct.specs.StructureRows.{with_row};
-ghost use Rattle.tv_struct.specs.TableForm.{HasEntry, row_of};
+ghost use Rattle.tv_structure_form.specs.TableForm.{HasEntry, row_of};
 ghost use Rattle.tv_struct.specs.TupleForm.{tuple_of};
 
 use crate::flags::Summaries;
@@ -41,7 +44,7 @@ pub struct Structure {
 pub type Structures = Items<Structure>;
 
 impl Model for Structure {
-    ghost use Rattle.tv_struct.specs.StructureForm.{StructureForm, IsStructure};
+    ghost use Rattle.tv_structure_form.specs.StructureForm.{StructureForm, IsStructure};
 
     ghost Value = { StructureForm };
 
@@ -55,7 +58,7 @@ impl Model for Structure {
 impl Structure {
     /// The structure over `size` individuals that has `No` everywhere and no summary. The number of
     /// predicates is a `u32`: for a longer vocabulary there isn't enough memory.
-    #[tactic(auto, using(crate::proofs::StructureLaws::arities_of_no))]
+    #[tactic(auto, using(tv_structure_form::proofs::StructureLaws::arities_of_no))]
     pub fn new(alloc: Global, vocab: &Vocab, size: u32) -> Result<Structure, AllocError>
         requires size { size ≤ 256 }
         requires arities { All (λ pred. pred.arity ≤ 2) vocab.now.preds }
@@ -73,7 +76,7 @@ impl Structure {
 
     /// The structure over `size` individuals and the predicates of `like` that has `No` everywhere and
     /// no summary.
-    #[tactic(auto, using(crate::proofs::StructureLaws::arities_of_no))]
+    #[tactic(auto, using(tv_structure_form::proofs::StructureLaws::arities_of_no))]
     pub fn of_no(alloc: Global, like: &Structure, size: u32) -> Result<Structure, AllocError>
         requires { size ≤ 256 }
         ensures value { IfOk result (λ s. s ≡ structure_of_no size (arities_of like.now)) }
@@ -120,7 +123,7 @@ impl Structure {
     }
 
     /// Puts `k` at the entry of the predicate `p` at the tuple `t`, and changes no other.
-    #[tactic(auto, using(crate::proofs::StructureLaws::arities_of_written))]
+    #[tactic(auto, using(tv_structure_form::proofs::StructureLaws::arities_of_written))]
     pub fn set(&mut self, p: PredId, t: Tuple, k: K3)
         requires { HasEntry (table_of self.old) p.0 (tuple_of t) }
         ensures value { self.new ≡ with_value self.old p.0 (tuple_of t) k }
@@ -348,7 +351,7 @@ impl Structure {
         })
     }
 
-    /// The same, where each row is one word.
+    /// The structure with a further individual, which is marked, where each row is one word.
     fn extended(&self, alloc: Global) -> Result<Structure, AllocError>
         requires size { self.now.size < 64 }
         requires mark { IsMark (with_new self.now) (Some self.now.size) }

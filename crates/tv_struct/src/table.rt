@@ -1,7 +1,7 @@
 //! The table that keeps the values of a structure.
 
 ghost use Rattle.std.specs.Prelude.{◌≡◌, ◌<◌, ℕ, length};
-ghost use Rattle.tv_struct.specs.TableForm.{TableForm, IsTable, HasEntry, entry, with_entry};
+ghost use Rattle.tv_structure_form.specs.TableForm.{TableForm, IsTable, HasEntry, entry, with_entry};
 ghost use Rattle.tv_struct.specs.TupleForm.{tuple_of};
 
 use tv_kleene::K3;

@@ -35,7 +35,7 @@ const PICKED: &str = "%p x(v) unique %p b() %r b() ==> 0 %%
 %action set() { %p x(v) & !x(w) { b() = 1 } } %% L1 set() L2";
 
 /// Rules against each of two predicates.
-const EXCLUDED: &str = "%p b() %p c() %r c() ==> 0 %r b() ==> 0 %%
+const EXCLUDED: &str = "%p x(v) unique %p b() %p c() %r c() ==> 0 %r b() ==> 0 %%
 %action skip() { } %% L skip() L";
 
 /// A rule against a predicate, and one against its negation.
@@ -80,14 +80,14 @@ initial 2 has no opening, by the declaration of some
 ",
         ..LOST
     },
-    // of two rules that are contradicted the first is named
+    // of two rules that are contradicted the first is named, and the rule of `x` is counted before them
     Row {
         files: &[
             ("p", EXCLUDED),
             ("i", "%n = {} %p = { b = 1 } %n = {} %p = { b = 1 c = 1 }"),
         ],
-        out: "initial 0 has no opening, by rule 1
-initial 1 has no opening, by rule 0
+        out: "initial 0 has no opening, by rule 2
+initial 1 has no opening, by rule 1
 node L lists nothing
 ",
         ..LOST

@@ -1,7 +1,7 @@
 //! Rows of analyses, of reports and traces that are read and refused, and of reports that are judged.
 
-mod analysed;
 mod analyses;
+mod analyzed;
 mod budgets;
 mod judged;
 mod lines;

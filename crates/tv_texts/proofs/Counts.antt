@@ -9,7 +9,7 @@ use Rattle.tv_lex.specs.declared.token.Token.{Token}
 use Rattle.tv_model.specs.declared.program.Pred.{Pred}
 use Rattle.tv_lex.proofs.PlaceLemmas.{count_in_order}
 use Rattle.tv_phrases.specs.Repeated.{Repeated}
-use Rattle.tv_struct.specs.StructureForm.{StructureForm, IsOver}
+use Rattle.tv_structure_form.specs.StructureForm.{StructureForm, IsOver}
 use Rattle.tv_tree.specs.Steps.{◌>>=◌}
 use Rattle.tv_tvs.proofs.Complete.{struct_shorter}
 use Rattle.tv_tvs.specs.Grammar.{IsStruct, begins_struct}

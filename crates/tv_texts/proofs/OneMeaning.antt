@@ -22,7 +22,7 @@ use Rattle.tv_plang.specs.declared.error.SourceError.TheVariants as source
 use Rattle.tv_report.specs.Meaning.{IsNoReport, MeansReport as MeansReportTokens}
 use Rattle.tv_status.specs.declared.status.FileKind.{FileKind}
 use Rattle.tv_status.specs.declared.status.FileKind.TheVariants as kind
-use Rattle.tv_struct.specs.StructureForm.{StructureForm}
+use Rattle.tv_structure_form.specs.StructureForm.{StructureForm}
 use Rattle.tv_texts.specs.Agreement.{Agree, GiveOne, SameProgram, placeless, at_start}
 use Rattle.tv_texts.specs.Meaning.{IsUnlexed, IsNoInitial, IsNoSource, AreOneHeap, MeansProgram, MeansInitial}
 use Rattle.tv_texts.specs.Meaning.{MeansStart, MeansMoves, MeansReport, MeansSource}
@@ -311,7 +311,7 @@ source_view text (Err (kind.Lexing e)) h = inr (h.0, inl (e, unlexed_reads text 
 source_view text (Err (kind.Source e)) h = inr (h.0, inr (h.1.0, h.1.1, h.1.2))
 source_view text (Err other) h = absurd h
 
--- a refusal of tokens is one of the compiler, and not want of memory
+-- a refusal of tokens is one of the compiler, and not lack of memory
 no_source : (text : List ℕ) (tokens : List Token) (e : SourceError) → IsNoSource text e tokens (spec_tokens text tokens)
     → (e ≢ source.Memory) × IsSourceCause (spec_tokens text tokens) e
 no_source text tokens source.Memory h = absurd h

@@ -6,7 +6,7 @@ use Rattle.tv_model.specs.declared.program.Vocab.{Vocab}
 use Rattle.tv_status.specs.declared.status.FileKind.{FileKind}
 use Rattle.tv_status.specs.declared.status.FileKind.TheVariants as kind
 use Rattle.tv_status.specs.declared.status.Role.TheVariants as role
-use Rattle.tv_struct.specs.StructureForm.{StructureForm, IsOver}
+use Rattle.tv_structure_form.specs.StructureForm.{StructureForm, IsOver}
 use Rattle.tv_texts.specs.Files.{IsTextCause}
 use Rattle.tv_texts.specs.Meaning.{AreOneHeap, MeansInitial, MeansStart}
 use Rattle.tv_texts.specs.declared.fault.TextFault.{TextFault}

@@ -14,7 +14,7 @@ use Rattle.tv_report.specs.Meaning.{MeansReport, IsNoReport, ListsNodes, NamedNo
 use Rattle.tv_report.specs.Tree.{NodeTree}
 use Rattle.tv_status.specs.declared.status.FileKind.{FileKind}
 use Rattle.tv_status.specs.declared.status.FileKind.TheVariants as kind
-use Rattle.tv_struct.specs.StructureForm.{StructureForm}
+use Rattle.tv_structure_form.specs.StructureForm.{StructureForm}
 use Rattle.tv_texts.specs.Agreement.{SameProgram}
 use Rattle.tv_texts.specs.Meaning.{IsNoInitial, MeansInitial, MeansStart, MeansMoves}
 use Rattle.tv_texts.specs.Meaning.{MeansReport as MeansReportIn}

@@ -9,7 +9,7 @@ use Rattle.tv_outside.specs.Told.{Held, content_of}
 use Rattle.tv_status.specs.declared.status.FileKind.{FileKind}
 use Rattle.tv_status.specs.declared.status.FileKind.TheVariants.{Gathering, TooLong}
 use Rattle.tv_status.specs.declared.status.Role.{Role}
-use Rattle.tv_struct.specs.StructureForm.{StructureForm}
+use Rattle.tv_structure_form.specs.StructureForm.{StructureForm}
 use Rattle.tv_trace.specs.declared.trace.Trace.{Trace}
 use Rattle.tv_texts.specs.Meaning.{MeansProgram, MeansInitial, MeansStart, MeansMoves, MeansReport}
 use Rattle.tv_texts.specs.Meaning.{MeansSource}

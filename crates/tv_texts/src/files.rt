@@ -9,7 +9,7 @@ ghost use Rattle.tv_model.specs.Valid.{IsValid};
 ghost use Rattle.tv_outside.specs.Count.{Rose, counted};
 ghost use Rattle.tv_outside.specs.Told.{HoldsName, IsContent};
 ghost use Rattle.tv_status.specs.declared.status.Role.TheVariants as role;
-ghost use Rattle.tv_struct.specs.StructureForm.{IsStructure, IsOver};
+ghost use Rattle.tv_structure_form.specs.StructureForm.{IsStructure, IsOver};
 ghost use Rattle.tv_trace.specs.Meaning.{IsTraceOn};
 ghost use Rattle.tv_two_valued.specs.TwoValued.{IsTwoValued};
 ghost use Rattle.tv_texts.specs.Files.{IsProgramFile, LacksFile, IsInitialFile, IsStartFile, IsTraceFile};

@@ -9,7 +9,7 @@ ghost use Rattle.tv_model.specs.Program.{program_of};
 ghost use Rattle.tv_model.specs.Valid.{IsValid};
 ghost use Rattle.tv_status.specs.declared.status.FileKind.TheVariants as kind;
 ghost use Rattle.tv_status.specs.declared.status.Role.TheVariants as role;
-ghost use Rattle.tv_struct.specs.StructureForm.{IsOver, IsStructure};
+ghost use Rattle.tv_structure_form.specs.StructureForm.{IsOver, IsStructure};
 ghost use Rattle.tv_texts.specs.Files.{IsTextCause};
 ghost use Rattle.tv_texts.specs.Meaning.{IsUnlexed, AreOneHeap, MeansProgram, MeansInitial, MeansStart};
 ghost use Rattle.tv_texts.specs.Meaning.{MeansMoves, MeansReport, MeansSource};

@@ -4,7 +4,7 @@ use Rattle.std.proofs.Common.{Some, inl, inr, false, refl, le_refl, sym, ap, sub
 use Rattle.std.specs.Prelude.{All, AllPairs, Any, Contains, IsSome, slice_get, ◌↔◌}
 use Rattle.std.proofs.lemmas.List.{length-map, get_or-map}
 use Rattle.std.proofs.lemmas.List.Folds.{map_fixed}
-use Rattle.tv_struct.proofs.Library.{unmarked-same}
+use Rattle.tv_structure_form.proofs.Library.{unmarked-same}
 use Rattle.tv_join.specs.Rounds.{IsInRound, point}
 use Rattle.tv_judge.specs.Judged.{KeepsAllBudgets}
 use Rattle.tv_judge.specs.Laws.{ClosedListingsAreClosedReports}
@@ -23,7 +23,7 @@ use Rattle.tv_report.specs.Laws.{ReportsAreReadAgain, IsReadable, IsShortLine, w
 use Rattle.tv_report.specs.Lines.{message_at, IsMessageLine, AreMapLines, message_key}
 use Rattle.tv_report.specs.Meaning.{IsReportText}
 use Rattle.tv_report.specs.Text.{report_text}
-use Rattle.tv_struct.specs.StructureForm.{StructureForm, unmarked}
+use Rattle.tv_structure_form.specs.StructureForm.{StructureForm, unmarked}
 use Rattle.tv_top.proofs.Later.{holds_later, taken_later}
 use Rattle.tv_top.specs.Answers.{IsFound, IsJoinFound, IsDone, Reached, case_for}
 use Rattle.tv_top.specs.Laws.{JoinedReportsAreAccepted, ReportsAreAccepted, SourceReportsAreAccepted}
@@ -31,7 +31,7 @@ use Rattle.tv_top.specs.Meaning.{Task, FilesMean}
 use Rattle.tv_step_laws.proofs.From.{from-back, zip-back}
 use Rattle.tv_step_laws.specs.Transfer.{IsOpening, IsResult, IsMessageValue, Steps, Finishes, IsBlurOf}
 use Rattle.tv_words.specs.Words.{CommandForm, Analyzes, Checks, Joins, Sources, Spells}
-use Rattle.tv_work.specs.Analysed.{IsBefore, IsReported}
+use Rattle.tv_work.specs.Analyzed.{IsBefore, IsReported}
 use Rattle.tv_work.specs.Reach.{Point, IsDerivation, IsListed}
 
 -- ---- marks

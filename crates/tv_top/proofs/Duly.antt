@@ -90,7 +90,7 @@ call_cause status (Err met) IsCause out_rose err_rose old new causes (inr e) too
 
 -- ---- where nothing fails
 
--- where no count of faults rose, the one excuse is want of memory
+-- where no count of faults rose, the one excuse is lack of memory
 memory_excuses : (IsCause : Fault → Type 0) (rose write : Type 0) (status : Status) → (IsCause fault.ReadFault → rose)
     → (¬ rose) → (¬ write) → EndsFor IsCause write status → IsExcuse status → status ≡ Memory
 memory_excuses IsCause rose write Done reads no_read no_write cause excuse = absurd excuse

@@ -16,7 +16,7 @@ use Rattle.tv_status.specs.declared.status.Status.{Status}
 use Rattle.tv_status.specs.declared.status.Status.TheVariants.{Done, Rejected, Stuck, Usage, FileFault}
 use Rattle.tv_status.specs.declared.status.Status.TheVariants.{Structures, TooManySplits, TooManyIndividuals}
 use Rattle.tv_status.specs.declared.status.Status.TheVariants.{ReadFault, WriteFault, Memory}
-use Rattle.tv_struct.specs.StructureForm.{StructureForm}
+use Rattle.tv_structure_form.specs.StructureForm.{StructureForm}
 use Rattle.tv_texts.specs.Agreement.{GiveOne, SameProgram, placeless}
 use Rattle.tv_top.proofs.Demands.{one_rejection, stops_unrejected, closed_unrejected}
 use Rattle.tv_top.proofs.Tasks.{SameTask, HasReport, same_case, rejected_report, run_report, one_task}
@@ -34,7 +34,7 @@ use Rattle.tv_trace.specs.declared.trace.Trace.{Trace}
 use Rattle.tv_step_laws.specs.Budgets.{MeetsSplits, MeetsIndividuals, KeepsBudgets}
 use Rattle.tv_words.specs.Words.{CommandForm, Analyzes, Checks, Demos, Joins, Replays, Sources, Spells}
 use Rattle.tv_words.specs.Words.{SpellsNothing}
-use Rattle.tv_work.specs.Analysed.{Meets}
+use Rattle.tv_work.specs.Analyzed.{Meets}
 use Rattle.tv_work.specs.Reach.{AreMoreThan}
 
 -- what may be called for: that the job is done, that the report is rejected, that a trace can't go on, or that a file is

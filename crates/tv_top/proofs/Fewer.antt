@@ -6,7 +6,7 @@ use Rattle.std.specs.Prelude.{All, AllPairs, Contains, sum_by}
 use Rattle.std.proofs.lemmas.List.Elements.{All-head, All-tail}
 use Rattle.std.proofs.lemmas.List.Sums.{sum_by-cons}
 use Rattle.tv_model.proofs.Lists.{Contains-cases, Contains-here, Contains-none, Contains-there}
-use Rattle.tv_struct.specs.StructureForm.{StructureForm}
+use Rattle.tv_structure_form.specs.StructureForm.{StructureForm}
 use Rattle.tv_work.specs.Reach.{AreMoreThan, IsListed, Point}
 
 module _ {X : Type 0} where

@@ -6,7 +6,7 @@ use Rattle.tv_join.specs.Keys.{IsJoinByKey, IsJoinOf, HasKey}
 use Rattle.tv_join.specs.Rounds.{IsFollowed, IsInRound, IsLast, point}
 use Rattle.tv_model.specs.Program.{ProgramForm}
 use Rattle.tv_model.specs.declared.program.Mode.{Mode}
-use Rattle.tv_struct.specs.StructureForm.{StructureForm}
+use Rattle.tv_structure_form.specs.StructureForm.{StructureForm}
 use Rattle.tv_work.specs.Reach.{Point}
 
 -- the same structures have the same joins. Lemmas of `tv_join` say this and the next; they stand there over

@@ -12,7 +12,7 @@ use Rattle.tv_top.specs.Answers.{KeepsRoundLimits}
 use Rattle.tv_top.specs.Answers.{Reached, demo_max}
 use Rattle.tv_top.specs.Meaning.{Task}
 use Rattle.tv_words.specs.Words.{CommandForm, Analyzes, Checks, Demos, Joins, Replays, Sources}
-use Rattle.tv_work.specs.Analysed.{KeepAllBudgets}
+use Rattle.tv_work.specs.Analyzed.{KeepAllBudgets}
 use Rattle.tv_work.specs.Reach.{AreMoreThan, Point}
 
 found_keeps : (t : Task) (max : ℕ) (a : Analysis) → IsFound t max a → KeepsLimits t max

@@ -27,7 +27,7 @@ use Rattle.tv_model.specs.Valid.{IsValid}
 use Rattle.tv_model.specs.declared.program.Edge.{Edge}
 use Rattle.tv_step_laws.specs.Laws.{StepsAreExact}
 use Rattle.tv_step_laws.specs.Transfer.{AreResults, IsOpening}
-use Rattle.tv_struct.specs.StructureForm.{StructureForm}
+use Rattle.tv_structure_form.specs.StructureForm.{StructureForm}
 use Rattle.tv_top.proofs.Demands.{closed_unrejected, one_rejection}
 use Rattle.tv_top.specs.Laws.{VerdictsAreOne}
 

@@ -31,7 +31,7 @@ use Rattle.tv_status.specs.declared.status.Status.TheVariants.{Structures, TooMa
 use Rattle.tv_status.specs.declared.status.Status.TheVariants.{ReadFault, WriteFault, Memory}
 use Rattle.tv_step_laws.specs.Budgets.{MeetsSplits, MeetsIndividuals}
 use Rattle.tv_step_laws.specs.Laws.{StepsAreExact}
-use Rattle.tv_struct.specs.StructureForm.{StructureForm}
+use Rattle.tv_structure_form.specs.StructureForm.{StructureForm}
 use Rattle.tv_texts.specs.Agreement.{GiveOne, SameProgram}
 use Rattle.tv_texts.specs.Files.{HoldsSuch, IsProgramFile, IsUngathered, LacksFile}
 use Rattle.tv_top.proofs.Endings.{CommandEnds, command_duly, done_reported, many_reported, step_reported}
@@ -52,7 +52,7 @@ use Rattle.tv_trace.specs.declared.trace.Trace.{Trace}
 use Rattle.tv_two_valued.specs.TwoValued.{IsTwoValued}
 use Rattle.tv_words.specs.Words.{CommandForm, Analyzes, Checks, Demos, Joins, Replays, Sources, Spells}
 use Rattle.tv_words.specs.Words.{SpellsNothing}
-use Rattle.tv_work.specs.Analysed.{IsAnalysis}
+use Rattle.tv_work.specs.Analyzed.{IsAnalysis}
 use Rattle.tv_work.specs.Laws.{AnalysesAreOne}
 
 -- ---- what was found is one

@@ -12,7 +12,7 @@ use Rattle.tv_replay.specs.Text.{broken_text, first_text, head_text, judged_text
 use Rattle.tv_replay.specs.Text.{own_name, place_text, states_text}
 use Rattle.tv_replay_laws.specs.declared.state.State.{State}
 use Rattle.tv_report.specs.Text.{map_text, message_text, node_text, nodes_text, report_text}
-use Rattle.tv_struct.specs.StructureForm.{StructureForm}
+use Rattle.tv_structure_form.specs.StructureForm.{StructureForm}
 use Rattle.tv_texts.specs.Agreement.{SameProgram}
 use Rattle.tv_tvs.specs.Canonical.{canonical_text, preds_text}
 

@@ -7,7 +7,7 @@ use Rattle.tv_outside.specs.Told.{Held}
 use Rattle.tv_status.specs.declared.status.FileKind.{FileKind}
 use Rattle.tv_status.specs.declared.status.Role.{Role}
 use Rattle.tv_status.specs.declared.status.Role.TheVariants as role
-use Rattle.tv_struct.specs.StructureForm.{StructureForm}
+use Rattle.tv_structure_form.specs.StructureForm.{StructureForm}
 use Rattle.tv_texts.specs.Agreement.{GiveOne, SameProgram, placeless}
 use Rattle.tv_top.specs.Answers.{CanRun, IsRejected, case_for}
 use Rattle.tv_top.specs.Meaning.{Task, FilesMean, GivesProgram, GivesInitial, GivesStart, GivesTrace}

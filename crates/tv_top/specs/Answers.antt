@@ -23,7 +23,7 @@ use Rattle.tv_source_names.specs.Outcome.{MeansSource}
 use Rattle.tv_source_laws.specs.Covers.{CoversSource}
 use Rattle.tv_status.specs.declared.status.Status.{Status}
 use Rattle.tv_status.specs.declared.status.Status.TheVariants.{Done, Rejected, Stuck}
-use Rattle.tv_struct.specs.StructureForm.{StructureForm, IsStructure}
+use Rattle.tv_structure_form.specs.StructureForm.{StructureForm, IsStructure}
 use Rattle.tv_texts.specs.Files.{HoldsSuch, IsProgramFile}
 use Rattle.tv_texts.specs.Meaning.{HasTokens}
 use Rattle.tv_top.specs.Meaning.{Task, FilesMean, GivesReport, GivesStart, GivesTrace}
@@ -36,7 +36,7 @@ use Rattle.tv_replay_laws.specs.declared.state.Why.{Why}
 use Rattle.tv_replay.specs.Text.{states_text, stuck_line}
 use Rattle.tv_trace.specs.declared.trace.Trace.{Trace}
 use Rattle.tv_words.specs.Words.{CommandForm, Analyzes, Checks, Demos, Joins, Replays, Sources}
-use Rattle.tv_work.specs.Analysed.{IsAnalysis, KeepAllBudgets, Meets}
+use Rattle.tv_work.specs.Analyzed.{IsAnalysis, KeepAllBudgets, Meets}
 use Rattle.tv_work.specs.Reach.{Point, IsReached, AreMoreThan}
 
 -- ---- soundness

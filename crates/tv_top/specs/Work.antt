@@ -15,7 +15,7 @@ use Rattle.tv_status.specs.declared.status.Role.{Role}
 use Rattle.tv_status.specs.declared.status.Role.TheVariants as role
 use Rattle.tv_status.specs.declared.status.Status.{Status}
 use Rattle.tv_status.specs.declared.status.Status.TheVariants.{Done, Rejected, Stuck}
-use Rattle.tv_struct.specs.StructureForm.{IsOver, StructureForm, IsStructure}
+use Rattle.tv_structure_form.specs.StructureForm.{IsOver, StructureForm, IsStructure}
 use Rattle.tv_texts.specs.Files.{IsProgramFile, IsSourceFile, LacksFile}
 use Rattle.tv_top.specs.Answers.{Reached, InRound, IsAccepted, IsAcceptedText, case_for, rejected_line}
 use Rattle.tv_top.specs.Answers.{AreStates}
@@ -31,7 +31,7 @@ use Rattle.tv_replay_laws.specs.declared.state.State.{State}
 use Rattle.tv_replay.specs.Text.{states_text, stuck_line}
 use Rattle.tv_trace.specs.declared.trace.Trace.{Trace}
 use Rattle.tv_words.specs.Words.{CommandForm, Analyzes, Checks, Demos, Joins, Replays, Sources, GoTogether}
-use Rattle.tv_work.specs.Analysed.{Meets}
+use Rattle.tv_work.specs.Analyzed.{Meets}
 use Rattle.tv_work.specs.Reach.{AreMoreThan}
 
 -- ---- where the program of a command comes from

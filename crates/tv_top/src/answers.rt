@@ -7,7 +7,7 @@ ghost use Rattle.tv_listing.specs.declared.analysis.Rejection.TheVariants as rej
 ghost use Rattle.tv_model.specs.Program.{program_of};
 ghost use Rattle.tv_model.specs.Valid.{IsValid};
 ghost use Rattle.tv_model.specs.declared.program.Mode.TheVariants.{Given};
-ghost use Rattle.tv_struct.specs.StructureForm.{IsOver};
+ghost use Rattle.tv_structure_form.specs.StructureForm.{IsOver};
 ghost use Rattle.tv_top.specs.Answers.{IsFound, IsJoinFound, accepted_text, rejected_item};
 ghost use Rattle.tv_top.specs.Answers.{rejected_line, demo_line};
 ghost use Rattle.tv_top.specs.Delivery.{SaidOf};
@@ -20,7 +20,7 @@ ghost use Rattle.tv_top.specs.Work.{IsJudged, IsJudgementCause, task_of};
 use crate::fault::{Answer, Fault, fault_of_work};
 use crate::inputs::Inputs;
 use std::alloc::{AllocError, Global};
-use tv_join::analyse_joined;
+use tv_join::analyze_joined;
 use tv_judge::{Verdict, first_unmet, judge};
 use tv_listing::{Analysis, Listing, MapLines, Rejection};
 use tv_model::{Mode, Program};
@@ -30,7 +30,7 @@ use tv_report::write_report;
 use tv_struct::Structure;
 use tv_trace::Trace;
 use tv_tvs::write_number;
-use tv_work::analyse;
+use tv_work::analyze;
 
 /// What is reached from the inputs, at most `max` structures.
 pub fn search(alloc: Global, inputs: &Inputs, mode: Mode, max: u64) -> Result<Analysis, Fault>
@@ -40,7 +40,7 @@ pub fn search(alloc: Global, inputs: &Inputs, mode: Mode, max: u64) -> Result<An
     ensures listing { IfOk result (λ a. IsListing inputs.now.program a.listing) }
     ensures cause { IfErr result (IsSearchCause (task_of inputs.now mode) max) }
 {
-    match analyse(alloc, &inputs.program, &inputs.initial, mode, max) {
+    match analyze(alloc, &inputs.program, &inputs.initial, mode, max) {
         Ok(found) => Ok(found),
         Err(error) => Err(fault_of_work(error, max)),
     }
@@ -58,7 +58,7 @@ pub fn search_joined(
     ensures found { IfOk result (IsJoinFound (task_of inputs.now mode) max) }
     ensures cause { IfErr result (IsJoinSearchCause (task_of inputs.now mode) max) }
 {
-    match analyse_joined(alloc, &inputs.program, &inputs.initial, mode, max) {
+    match analyze_joined(alloc, &inputs.program, &inputs.initial, mode, max) {
         Ok(found) => Ok(found),
         Err(error) => Err(fault_of_work(error, max)),
     }

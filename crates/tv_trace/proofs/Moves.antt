@@ -13,7 +13,7 @@ use Rattle.tv_phrases.specs.Reading.{taken, ◌>>=◌, Told}
 use Rattle.tv_phrases.specs.declared.error.PhraseError.{PhraseError}
 use Rattle.tv_phrases.specs.declared.error.PhraseError.TheVariants.{Unexpected, Memory}
 use Rattle.tv_phrases.proofs.Values.{bind_some, tested}
-use Rattle.tv_struct.specs.StructureForm.{StructureForm}
+use Rattle.tv_structure_form.specs.StructureForm.{StructureForm}
 use Rattle.tv_tvs.specs.Meaning.{struct_meant}
 use Rattle.tv_tvs.specs.Grammar.{IsStruct}
 use Rattle.tv_tvs.specs.Reading.{structure_at}

@@ -3,7 +3,7 @@ use Rattle.std.specs.Prelude.{⊤, ◌≡◌, ◌<◌, List, [], ◌∷◌, leng
 use Rattle.tv_lex.specs.Token.{SpecToken}
 use Rattle.tv_model.specs.declared.program.Program.{Program}
 use Rattle.tv_model.specs.declared.program.Vocab.{Vocab}
-use Rattle.tv_struct.specs.StructureForm.{StructureForm}
+use Rattle.tv_structure_form.specs.StructureForm.{StructureForm}
 use Rattle.tv_tvs.specs.Meaning.{struct_meant}
 use Rattle.tv_tvs.specs.Targets.{IsRead}
 use Rattle.tv_tvs.specs.Tree.{StructTree}

@@ -9,7 +9,7 @@ use Rattle.tv_phrases.specs.Reading.{Reading, ◌>>=◌, choose}
 use Rattle.tv_phrases.specs.Tokens.{after, first, number_item}
 use Rattle.tv_phrases.specs.Lists.{optional_list}
 use Rattle.tv_phrases.specs.Repeated.{begins_with, all_of}
-use Rattle.tv_struct.specs.StructureForm.{StructureForm}
+use Rattle.tv_structure_form.specs.StructureForm.{StructureForm}
 use Rattle.tv_tvs.specs.Reading.{struct_end, structure_at}
 use Rattle.tv_trace.specs.declared.trace.Move.{Move}
 

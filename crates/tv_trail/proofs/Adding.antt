@@ -6,7 +6,7 @@ use Rattle.std.specs.Prelude.{All, slice_get}
 use Rattle.std.proofs.lemmas.List.{length-append, length-map, length-set}
 use Rattle.tv_lemmas.proofs.Lists.{pushed_there}
 use Rattle.tv_listing.specs.ListingForm.{at_node, appended, HasEqual}
-use Rattle.tv_struct.specs.StructureForm.{StructureForm}
+use Rattle.tv_structure_form.specs.StructureForm.{StructureForm}
 use Rattle.tv_work.specs.Reach.{Point, IsListed, AreMoreThan}
 use Rattle.tv_work.proofs.Causes.{more-weaker}
 use Rattle.tv_work.proofs.Meeting.{listed-cases, total-more}

@@ -1,7 +1,7 @@
 -- A walk back: what stands on it is over the vocabulary.
 use Rattle.tv_model.specs.declared.program.Program.{Program}
 use Rattle.tv_model.specs.Program.{program_of}
-use Rattle.tv_struct.specs.StructureForm.{StructureForm, IsStructure, IsOver}
+use Rattle.tv_structure_form.specs.StructureForm.{StructureForm, IsStructure, IsOver}
 use Rattle.tv_step_laws.specs.Settled.{IsSettled}
 use Rattle.tv_step_laws.proofs.Shapes.{shaped-over}
 

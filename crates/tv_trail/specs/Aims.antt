@@ -3,7 +3,7 @@ use Rattle.std.specs.Prelude.{ℕ, ◌≡◌, ◌≢◌, List, Some, slice_get}
 use Rattle.tv_kleene.specs.declared.K3.{K3}
 use Rattle.tv_kleene.specs.declared.K3.TheVariants.{No}
 use Rattle.tv_model.specs.Program.{ProgramForm}
-use Rattle.tv_struct.specs.StructureForm.{StructureForm, unmarked}
+use Rattle.tv_structure_form.specs.StructureForm.{StructureForm, unmarked}
 use Rattle.tv_work.specs.Reach.{Point}
 use Rattle.tv_trail_laws.specs.Trails.{IsRaisedAt}
 use Rattle.tv_trail_laws.specs.declared.trail.Goal.{Goal}

@@ -1,7 +1,7 @@
 -- What a trail's structures are.
 use Rattle.std.specs.Prelude.{All}
 use Rattle.tv_model.specs.declared.program.Vocab.{Vocab}
-use Rattle.tv_struct.specs.StructureForm.{IsStructure, IsOver}
+use Rattle.tv_structure_form.specs.StructureForm.{IsStructure, IsOver}
 use Rattle.tv_trail_laws.specs.declared.trail.Trail.{Trail}
 
 -- the trail's structures are structures over the vocabulary

@@ -4,7 +4,7 @@ use Rattle.std.specs.Prelude.{Option, Some, None, All, slice_get, slice_index_or
 use Rattle.tv_listing.specs.ListingForm.{at_node}
 use Rattle.tv_model.specs.Program.{ProgramForm}
 use Rattle.tv_model.specs.declared.program.Edge.{Edge}
-use Rattle.tv_struct.specs.StructureForm.{StructureForm}
+use Rattle.tv_structure_form.specs.StructureForm.{StructureForm}
 use Rattle.tv_step_laws.specs.Settled.{IsSettled}
 use Rattle.tv_work.specs.Leaving.{LeavesBy}
 use Rattle.tv_work.specs.Reach.{Point, IsListed, Leads}

@@ -2,8 +2,8 @@
 
 ghost use Rattle.std.specs.Prelude.{◌≡◌, ◌<◌, ◌≤◌, ◌⊎◌, [], Contains, IfOk, IfErr, IfSome, OnOk, Some, None};
 ghost use Rattle.std.specs.Prelude.{All, length, replicate, slice_get};
-ghost use Rattle.tv_struct.specs.StructureForm.{StructureForm, IsStructure};
-ghost use Rattle.tv_work.specs.Analysed.{IsMeetCause};
+ghost use Rattle.tv_structure_form.specs.StructureForm.{StructureForm, IsStructure};
+ghost use Rattle.tv_work.specs.Analyzed.{IsMeetCause};
 ghost use Rattle.tv_trail.specs.Searched.{TraceForm, AreListedMet, Meets};
 ghost use Rattle.tv_trail_laws.specs.Met.{IsMet};
 

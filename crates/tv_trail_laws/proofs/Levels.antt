@@ -6,7 +6,7 @@ use Rattle.std.proofs.lemmas.Bool.{cases_lt}
 use Rattle.std.proofs.lemmas.List.Elements.{All-contains}
 use Rattle.std.proofs.lemmas.Option.{slice_get-get_or}
 use Rattle.tv_lemmas.proofs.Lists.{some_at}
-use Rattle.tv_struct.specs.StructureForm.{StructureForm}
+use Rattle.tv_structure_form.specs.StructureForm.{StructureForm}
 use Rattle.tv_step_laws.specs.Transfer.{IsOpening}
 use Rattle.tv_work.specs.Reach.{Point, IsDerivation, IsStartPoint, Follows}
 use Rattle.tv_work.specs.Task.{TaskForm, reached_in}

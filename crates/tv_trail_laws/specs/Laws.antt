@@ -1,6 +1,6 @@
 -- Laws of a breadth-first search, as statements.
 use Rattle.std.specs.Prelude.{ℕ, ◌≡◌, ◌<◌, ◌≤◌, ◌+◌, List, ◌++◌, length, Some, All, slice_get}
-use Rattle.tv_struct.specs.StructureForm.{StructureForm}
+use Rattle.tv_structure_form.specs.StructureForm.{StructureForm}
 use Rattle.tv_work.specs.Reach.{Point}
 use Rattle.tv_work.specs.Task.{TaskForm, reached_in}
 use Rattle.tv_trail_laws.specs.Met.{Found, IsAt, AreTraced, IsFirst, IsFromBelow, AreOpenedIn, IsPassed}

@@ -1,7 +1,7 @@
 -- What a breadth-first search has met, and what is known of it level by level.
 use Rattle.std.specs.Prelude.{ℕ, zero, suc, ◌≡◌, ◌<◌, ◌≤◌, List, length, Some, slice_get}
 use Rattle.tv_model.specs.declared.program.Edge.{Edge}
-use Rattle.tv_struct.specs.StructureForm.{StructureForm}
+use Rattle.tv_structure_form.specs.StructureForm.{StructureForm}
 use Rattle.tv_step_laws.specs.Transfer.{IsOpening}
 use Rattle.tv_work.specs.Reach.{Point, Leads, Follows, IsDerivation}
 use Rattle.tv_work.specs.Task.{TaskForm}

@@ -21,7 +21,7 @@ abbrev pub Unless : Bool → Type 0 → Type 0
 Unless true P = Unit {0}
 Unless false P = P
 
--- What a call refused is what its definition refuses. Of want of memory, which no definition knows, nothing
+-- What a call refused is what its definition refuses. Of lack of memory, which no definition knows, nothing
 -- is said.
 abbrev pub Fails : {Y E : Type 0} → (E → Bool) → E → Result Y E → Type 0
 Fails is_memory e out = Unless (is_memory e) (out ≡ Err e)

@@ -419,7 +419,7 @@ fn print_edge_tokens(out: &mut Vec<u8>, edge: &EdgeTree<'_>) -> Result<(), Alloc
 /// node, with single spaces and a line feed at the end.
 ///
 /// # Errors
-/// Want of memory.
+/// Lack of memory.
 #[tactic(auto, using(crate::proofs::Texts::line_done))]
 pub fn print_edge(out: &mut Vec<u8>, edge: &EdgeTree<'_>) -> Result<(), AllocError>
     ensures { OnOk result (out.new.items ≡ out.old.items ++ text_of_lines (edge_lines (edge_of edge.now))) }

@@ -7,9 +7,9 @@ use Rattle.std.specs.List.{flat_map, cons_option, range_with_len, AllByRecursion
 use Rattle.std.proofs.lemmas.Bool.{cases_eq}
 use Rattle.tv_kleene.specs.declared.K3.{K3}
 use Rattle.tv_kleene.specs.declared.K3.TheVariants.{No, Half, Yes}
-use Rattle.tv_struct.specs.TableForm.{HasEntry, AreIndividuals}
-use Rattle.tv_struct.specs.StructureForm.{StructureForm, table_of, arities_of, value_at, summary_at}
-use Rattle.tv_struct.specs.StructureForm.{with_value, with_summary}
+use Rattle.tv_structure_form.specs.TableForm.{HasEntry, AreIndividuals}
+use Rattle.tv_structure_form.specs.StructureForm.{StructureForm, table_of, arities_of, value_at, summary_at}
+use Rattle.tv_structure_form.specs.StructureForm.{with_value, with_summary}
 use Rattle.tv_tvs.specs.Tree.{ItemTree}
 use Rattle.tv_tvs.specs.Canonical.{individuals, tuples, tuple_item, written_item, written_items}
 use Rattle.tv_tvs.specs.Canonical.{summary_value}

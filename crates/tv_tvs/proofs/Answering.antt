@@ -17,7 +17,7 @@ use Rattle.tv_phrases.specs.declared.error.PhraseError.TheVariants as phrase
 use Rattle.tv_phrases.specs.Reading.{◌>>=◌, choose, Told}
 use Rattle.tv_phrases.specs.Tokens.{after, first, word_item, identifier_item}
 use Rattle.tv_phrases.specs.Lists.{with_front, items_from, optional_list, optional_brackets, between, name}
-use Rattle.tv_struct.specs.StructureForm.{StructureForm}
+use Rattle.tv_structure_form.specs.StructureForm.{StructureForm}
 use Rattle.tv_tvs.specs.declared.error.TvsError.{TvsError}
 use Rattle.tv_tvs.specs.declared.error.TvsError.TheVariants.{Syntax, IndividualUnknown, IndividualTwice}
 use Rattle.tv_tvs.specs.declared.error.TvsError.TheVariants.{NameUnknown, ArityWrong, BadSm}

@@ -9,7 +9,7 @@ use Rattle.std.specs.Option.{option_map}
 use Rattle.std.proofs.lemmas.Bool.{and_parts, eqb-true, ne_eqb}
 use Rattle.tv_kleene.specs.declared.K3.{K3}
 use Rattle.tv_model.specs.declared.program.Pred.{Pred}
-use Rattle.tv_struct.specs.StructureForm.{StructureForm, structure_of_no}
+use Rattle.tv_structure_form.specs.StructureForm.{StructureForm, structure_of_no}
 use Rattle.tv_tvs.specs.declared.build.Target.{Target}
 use Rattle.tv_tvs.specs.declared.build.Target.TheVariants.{Marks, Values}
 use Rattle.tv_tvs.specs.declared.error.TvsError.{TvsError}

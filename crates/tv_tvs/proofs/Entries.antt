@@ -13,11 +13,11 @@ use Rattle.tv_lemmas.proofs.Texts.{texts_differ}
 use Rattle.tv_kleene.specs.declared.K3.{K3}
 use Rattle.tv_kleene.specs.declared.K3.TheVariants.{No, Half, Yes}
 use Rattle.tv_model.specs.declared.program.Pred.{Pred}
-use Rattle.tv_struct.specs.TableForm.{PlaneForm, HasEntry, AreIndividuals}
-use Rattle.tv_struct.specs.StructureForm.{StructureForm, IsStructure, table_of, arities_of, value_at}
-use Rattle.tv_struct.specs.StructureForm.{summary_at, with_value, unmarked}
-use Rattle.tv_struct.proofs.TableLaws.{IsTable-of_no}
-use Rattle.tv_struct.proofs.StructureLaws.{new_is_no}
+use Rattle.tv_structure_form.specs.TableForm.{PlaneForm, HasEntry, AreIndividuals}
+use Rattle.tv_structure_form.specs.StructureForm.{StructureForm, IsStructure, table_of, arities_of, value_at}
+use Rattle.tv_structure_form.specs.StructureForm.{summary_at, with_value, unmarked}
+use Rattle.tv_structure_form.proofs.TableLaws.{IsTable-of_no}
+use Rattle.tv_structure_form.proofs.StructureLaws.{new_is_no}
 use Rattle.tv_tvs.specs.declared.error.TvsError.{TvsError}
 use Rattle.tv_tvs.specs.declared.error.TvsError.TheVariants.{NameUnknown, ArityWrong}
 use Rattle.tv_tvs.specs.Tree.{NameTree, ItemTree, ContentTree, OneValue, Listed, EntryTree, StructTree}

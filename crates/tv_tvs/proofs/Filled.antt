@@ -6,12 +6,13 @@ use Rattle.std.proofs.lemmas.List.{length-set}
 use Rattle.std.proofs.lemmas.Slice.Eq.{bytes_eq-Decides}
 use Rattle.tv_kleene.specs.declared.K3.{K3}
 use Rattle.tv_kleene.specs.declared.K3.TheVariants.{No}
-use Rattle.tv_struct.specs.TableForm.{HasEntry}
-use Rattle.tv_struct.specs.StructureForm.{StructureForm, IsStructure, IsMark, table_of, arities_of, value_at}
-use Rattle.tv_struct.specs.StructureForm.{summary_at, with_value, with_summary, unmarked}
-use Rattle.tv_struct.specs.Laws.{WritesOneEntry, WritesOneSummary}
-use Rattle.tv_struct.proofs.TableLaws.{IsTable-with_entry}
-use Rattle.tv_struct.proofs.StructureLaws.{writes_one_entry, writes_one_summary, same_structure}
+use Rattle.tv_structure_form.specs.TableForm.{HasEntry}
+use Rattle.tv_structure_form.specs.StructureForm.{StructureForm, IsStructure, IsMark, table_of, arities_of}
+use Rattle.tv_structure_form.specs.StructureForm.{value_at}
+use Rattle.tv_structure_form.specs.StructureForm.{summary_at, with_value, with_summary, unmarked}
+use Rattle.tv_structure_form.specs.Laws.{WritesOneEntry, WritesOneSummary}
+use Rattle.tv_structure_form.proofs.TableLaws.{IsTable-with_entry}
+use Rattle.tv_structure_form.proofs.StructureLaws.{writes_one_entry, writes_one_summary, same_structure}
 
 -- each value of c is No or that of s, and each summary of c is one of s
 pub record IsPart (c s : StructureForm) : Type 0 where

@@ -4,7 +4,7 @@ use Rattle.std.specs.Prelude.{codes, slice_index_or}
 use Rattle.std.proofs.lemmas.List.FromFn.{length-map-range_with_len, get_or-map-range_with_len}
 use Rattle.tv_kleene.specs.declared.K3.{K3}
 use Rattle.tv_kleene.specs.declared.K3.TheVariants.{No}
-use Rattle.tv_struct.specs.StructureForm.{StructureForm, value_at}
+use Rattle.tv_structure_form.specs.StructureForm.{StructureForm, value_at}
 use Rattle.tv_struct.specs.StructureRows.{unary_row, row_at, summary_row}
 use Rattle.tv_tvs.specs.Canonical.{content_of, if_some, line_text, summaries_text, summary_value}
 use Rattle.tv_tvs.specs.Rows.{single_items}

@@ -17,7 +17,7 @@ use Rattle.tv_lex.specs.Token.{SpecToken, spec_tokens}
 use Rattle.tv_model.specs.Spelling.{IsIdentifier, IsLetter, IsDigit, IsName, reserved_words}
 use Rattle.tv_model.specs.declared.program.Pred.{Pred}
 use Rattle.tv_model.specs.declared.program.Vocab.{Vocab}
-use Rattle.tv_struct.specs.StructureForm.{StructureForm, value_at, unmarked}
+use Rattle.tv_structure_form.specs.StructureForm.{StructureForm, value_at, unmarked}
 use Rattle.tv_tvs.specs.Tree.{NameTree, name_text, ItemTree, ContentTree, EntryTree, StructTree}
 use Rattle.tv_tvs.specs.Canonical.{comma_text, individual, individuals, tuples, tuple_item, written_item}
 use Rattle.tv_tvs.specs.Canonical.{written_items, if_some, value_content, content_of, line_text}

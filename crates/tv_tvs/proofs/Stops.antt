@@ -11,7 +11,7 @@ use Rattle.tv_lex.specs.Places.{place_at, IsTokenPlace, StopsAtToken}
 use Rattle.tv_lex.specs.declared.token.Place.{Place}
 use Rattle.tv_lex.specs.declared.token.Token.{Token}
 use Rattle.tv_model.specs.declared.program.Vocab.{Vocab}
-use Rattle.tv_struct.specs.StructureForm.{StructureForm, IsStructure, IsOver}
+use Rattle.tv_structure_form.specs.StructureForm.{StructureForm, IsStructure, IsOver}
 use Rattle.tv_tvs.specs.Targets.{IsRead}
 use Rattle.tv_tvs.specs.declared.error.TvsError.{TvsError}
 use Rattle.tv_tvs.specs.declared.error.TvsError.TheVariants.{Syntax}

@@ -7,7 +7,7 @@ use Rattle.tv_kleene.specs.declared.K3.{K3}
 use Rattle.tv_kleene.specs.declared.K3.TheVariants.{No, Half, Yes}
 use Rattle.tv_model.specs.declared.program.Pred.{Pred}
 use Rattle.tv_model.specs.declared.program.Vocab.{Vocab}
-use Rattle.tv_struct.specs.StructureForm.{StructureForm, value_at, summary_at}
+use Rattle.tv_structure_form.specs.StructureForm.{StructureForm, value_at, summary_at}
 use Rattle.tv_tvs.specs.Tree.{ItemTree, ContentTree, OneValue, Listed}
 
 -- ---- how items and entries are laid out

@@ -8,7 +8,7 @@ use Rattle.tv_model.specs.Spelling.{IsName}
 use Rattle.tv_model.specs.Valid.{IsValid}
 use Rattle.tv_model.specs.declared.program.Program.{Program}
 use Rattle.tv_model.specs.declared.program.Vocab.{Vocab}
-use Rattle.tv_struct.specs.StructureForm.{StructureForm, IsStructure, IsOver, unmarked}
+use Rattle.tv_structure_form.specs.StructureForm.{StructureForm, IsStructure, IsOver, unmarked}
 use Rattle.tv_tvs.specs.Tree.{StructTree}
 use Rattle.tv_tvs.specs.Grammar.{IsStruct, AreStructs}
 use Rattle.tv_tvs.specs.Meaning.{IsVocabulary, MeansStruct, MeansStructs}

@@ -11,7 +11,7 @@ use Rattle.tv_model.specs.declared.program.Vocab.{Vocab}
 use Rattle.tv_tree.specs.Names.{is_among}
 pub use Rattle.tv_tree.specs.Names.{number_of}
 use Rattle.tv_tree.specs.Steps.{◌>>=◌, or_refused}
-use Rattle.tv_struct.specs.StructureForm.{StructureForm, structure_of_no, with_value, with_summary}
+use Rattle.tv_structure_form.specs.StructureForm.{StructureForm, structure_of_no, with_value, with_summary}
 use Rattle.tv_lex.specs.Token.{SpecToken}
 use Rattle.tv_lex.specs.declared.token.Place.{Place}
 use Rattle.tv_phrases.specs.declared.error.PhraseError.{PhraseError}
@@ -202,7 +202,7 @@ IsCauseOfOne vocab tokens Memory = Unit {0}
 
 -- ---- what the parts of the reader answer
 
--- what an answer, seen by view, says of a meaning: the same value, or the same refusal; want of memory says
+-- what an answer, seen by view, says of a meaning: the same value, or the same refusal; lack of memory says
 -- nothing
 abbrev pub RefusesStructures : {X : Type 0} → TvsError → Result X TvsError → Type 0
 RefusesStructures (Syntax place) meaning = ⊥

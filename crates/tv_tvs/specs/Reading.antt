@@ -10,7 +10,7 @@ use Rattle.tv_phrases.specs.Repeated.{all_of}
 use Rattle.tv_phrases.specs.Lists.{optional_list, name}
 use Rattle.tv_tvs.specs.Tree.{ItemTree, ContentTree, OneValue, Listed, EntryTree, StructTree}
 use Rattle.tv_model.specs.declared.program.Vocab.{Vocab}
-use Rattle.tv_struct.specs.StructureForm.{StructureForm}
+use Rattle.tv_structure_form.specs.StructureForm.{StructureForm}
 use Rattle.tv_tvs.specs.Meaning.{struct_meant}
 use Rattle.tv_tvs.specs.Grammar.{value_item, begins_comma, begins_word, begins_name, begins_struct}
 

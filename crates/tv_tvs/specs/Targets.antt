@@ -1,8 +1,8 @@
 -- What entries speak of, as the builder of structures sees it.
 use Rattle.std.specs.Prelude.{ℕ, ◌≡◌, ◌<◌, List, Some, None, slice_get, slice_index}
 use Rattle.tv_model.specs.declared.program.Vocab.{Vocab}
-use Rattle.tv_struct.specs.StructureForm.{StructureForm, IsStructure, IsOver, arities_of, table_of}
-use Rattle.tv_struct.specs.TableForm.{HasEntry}
+use Rattle.tv_structure_form.specs.StructureForm.{StructureForm, IsStructure, IsOver, arities_of, table_of}
+use Rattle.tv_structure_form.specs.TableForm.{HasEntry}
 use Rattle.tv_tvs.specs.declared.build.Target.{Target}
 use Rattle.tv_tvs.specs.declared.build.Target.TheVariants.{Marks, Values}
 use Rattle.tv_tvs.specs.Meaning.{Subject, Summaries, Predicate}

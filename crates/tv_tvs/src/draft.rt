@@ -81,7 +81,7 @@ impl Draft {
         Ok(())
     }
 
-    /// The same in further room.
+    /// Puts a text behind the others, in further room.
     fn put_beyond(&mut self, text: &ShortText) -> Result<(), AllocError>
         ensures { OnOk result (self.new ≡ self.old ++ text.now) }
     {
@@ -104,7 +104,7 @@ impl Draft {
         Ok(())
     }
 
-    /// The same in further room.
+    /// Puts bytes behind the others, in further room.
     fn put_bytes_beyond(&mut self, bytes: &[u8]) -> Result<(), AllocError>
         ensures { OnOk result (self.new ≡ self.old ++ bytes.now) }
     {

@@ -7,7 +7,7 @@ ghost use Rattle.tv_lex.specs.Places.{IsTokenPlace, StopsAtToken};
 ghost use Rattle.tv_lex.specs.Token.{spec_tokens};
 ghost use Rattle.tv_model.specs.declared.program.Vocab.{Vocab};
 ghost use Rattle.tv_phrases.specs.Reading.{GivesReading};
-ghost use Rattle.tv_struct.specs.StructureForm.{StructureForm, IsOver, IsStructure};
+ghost use Rattle.tv_structure_form.specs.StructureForm.{StructureForm, IsOver, IsStructure};
 ghost use Rattle.tv_tvs.specs.Meaning.{IsVocabulary, MeansStructs, MeansStruct, IsStructuresCause};
 ghost use Rattle.tv_tvs.specs.Meaning.{IsCauseOfOne, Refused, Answers, structures_place};
 ghost use Rattle.tv_tvs.specs.Reading.{struct_end, structure_at};

@@ -6,7 +6,7 @@ ghost use Rattle.std.specs.Prelude.{Some, length, slice_get, slice_index_or, dro
 ghost use Rattle.std.specs.List.{flat_map, range_with_len};
 ghost use Rattle.tv_kleene.specs.declared.K3.TheVariants.{No};
 ghost use Rattle.tv_row.specs.Firsts.{IsFirstFrom};
-ghost use Rattle.tv_struct.specs.StructureForm.{IsOver, arities_of, value_at};
+ghost use Rattle.tv_structure_form.specs.StructureForm.{IsOver, arities_of, value_at};
 ghost use Rattle.tv_struct.specs.StructureRows.{HasArity, unary_row, row_at};
 ghost use Rattle.tv_tvs.specs.Canonical.{canonical_text, comma_text, more_texts, individual, individuals};
 ghost use Rattle.tv_tvs.specs.Canonical.{tuples, item_text, written_items, value_content, if_some, line_text};
@@ -62,7 +62,7 @@ fn prefix_of(line: &mut Line, names: &[ShortText], u: u32) -> ShortText
     ShortText::of(line.as_slice())
 }
 
-/// The same for 256 individuals.
+/// What stands in front of the second individual of each pair, for each of 256 first ones.
 fn all_prefixes(
     alloc: Global,
     line: &mut Line,

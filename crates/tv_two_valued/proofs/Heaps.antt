@@ -14,10 +14,10 @@ use Rattle.tv_model.specs.Heap.{Holds, IsTuple, extent}
 use Rattle.tv_model.specs.Program.{ProgramForm, PredForm}
 use Rattle.tv_model.specs.Rules.{IsHeap}
 use Rattle.tv_model.proofs.Lists.{Contains-none, Contains-filter, Contains-filter_back, All-from_contains}
-use Rattle.tv_struct.specs.StructureForm.{StructureForm, IsStructure, arities_of, value_at}
-use Rattle.tv_struct.specs.TableForm.{AreIndividuals}
-use Rattle.tv_struct.proofs.Library.{Contains-range, below-range, All-individuals, fits_or_No}
-use Rattle.tv_struct.proofs.StructureLaws.{value_at-past}
+use Rattle.tv_structure_form.specs.StructureForm.{StructureForm, IsStructure, arities_of, value_at}
+use Rattle.tv_structure_form.specs.TableForm.{AreIndividuals}
+use Rattle.tv_structure_form.proofs.Library.{Contains-range, below-range, All-individuals, fits_or_No}
+use Rattle.tv_structure_form.proofs.StructureLaws.{value_at-past}
 use Rattle.tv_two_valued.specs.TwoValued.{heap_of, lists_of, yes_tuples, extents_from}
 use Rattle.tv_two_valued.specs.Laws.{IsToldBy, IsOfProgram, HeapsAreTold}
 use Rattle.tv_two_valued.proofs.Tuples.{list-fits, list-found}

@@ -13,8 +13,8 @@ use Rattle.tv_embedding_laws.specs.LogicalStructure.{heap_structure}
 use Rattle.tv_embedding_laws.proofs.EmbeddingLaws.{reads_heap}
 use Rattle.tv_model.specs.Form.{Form}
 use Rattle.tv_model.specs.Truth.{Assignment, Truth}
-use Rattle.tv_struct.specs.StructureForm.{StructureForm, IsStructure, structure_of, value_at}
-use Rattle.tv_struct.proofs.Library.{Contains-range, below-range}
+use Rattle.tv_structure_form.specs.StructureForm.{StructureForm, IsStructure, structure_of, value_at}
+use Rattle.tv_structure_form.proofs.Library.{Contains-range, below-range}
 use Rattle.tv_eval_laws.specs.Laws.{GivesIndividuals, LooksAlike, TellsTruth}
 use Rattle.tv_eval_laws.specs.Value.{value}
 use Rattle.tv_eval_laws.proofs.InHeaps.{heaps_tell_truth}

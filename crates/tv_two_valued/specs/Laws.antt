@@ -6,7 +6,8 @@ use Rattle.tv_model.specs.Heap.{Holds}
 use Rattle.tv_model.specs.Program.{ProgramForm}
 use Rattle.tv_model.specs.Rules.{IsHeap}
 use Rattle.tv_model.specs.Truth.{Assignment, Truth}
-use Rattle.tv_struct.specs.StructureForm.{StructureForm, IsStructure, arities_of, value_at, structure_of}
+use Rattle.tv_structure_form.specs.StructureForm.{StructureForm, IsStructure, arities_of, value_at}
+use Rattle.tv_structure_form.specs.StructureForm.{structure_of}
 use Rattle.tv_eval_laws.specs.Laws.{GivesIndividuals}
 use Rattle.tv_eval_laws.specs.Value.{value}
 use Rattle.tv_two_valued.specs.TwoValued.{IsTwoValued, heap_of}

@@ -6,7 +6,7 @@ use Rattle.std.specs.Prelude.{filter}
 use Rattle.tv_kleene.specs.declared.K3.TheVariants.{Half}
 pub use Rattle.tv_kleene.specs.Kleene.{is_yes}
 use Rattle.tv_model.specs.Heap.{Heap}
-use Rattle.tv_struct.specs.StructureForm.{StructureForm, value_at, summary_at, arities_of}
+use Rattle.tv_structure_form.specs.StructureForm.{StructureForm, value_at, summary_at, arities_of}
 
 -- no value is unknown, and no individual is a summary
 pub record IsTwoValued (s : StructureForm) : Type 0 where

@@ -2,13 +2,13 @@
 
 ghost use Rattle.std.specs.Prelude.{◌≡◌, ◌↔◌, IsTrue};
 ghost use Rattle.tv_eval.specs.AssignmentForm.{assignment_of};
-ghost use Rattle.tv_eval.specs.Bound.{IsBound, bound_structure, bound_room};
+ghost use Rattle.tv_eval.specs.Bound.{bound_structure, bound_room};
 ghost use Rattle.tv_eval.specs.Formulas.{AreAssigned};
 ghost use Rattle.tv_eval.specs.ScratchForm.{HasScratchFor};
 ghost use Rattle.tv_model.specs.Form.{form_of};
 ghost use Rattle.tv_model.specs.Truth.{Truth};
 ghost use Rattle.tv_model.specs.Valid.{IsFormulaOver};
-ghost use Rattle.tv_struct.specs.StructureForm.{arities_of, IsStructure};
+ghost use Rattle.tv_structure_form.specs.StructureForm.{arities_of, IsStructure};
 ghost use Rattle.tv_kleene.specs.Kleene.{is_yes};
 ghost use Rattle.tv_two_valued.specs.TwoValued.{IsTwoValued, heap_of};
 
@@ -18,8 +18,7 @@ use tv_model::Formula;
 
 /// Whether the formula is true under the assignment in the heap that the evaluator's structure stands
 /// for. Takes no memory.
-pub fn holds<'a>(evaluator: &mut Evaluator<'a>, f: &'a Formula, a: &Assignment) -> bool
-    requires bound { IsBound evaluator.old }
+pub fn holds<'a>(evaluator: &mut Evaluator<'_, 'a>, f: &'a Formula, a: &Assignment) -> bool
     requires structure { IsStructure (bound_structure evaluator.old) }
     requires two_valued { IsTwoValued (bound_structure evaluator.old) }
     requires formula { IsFormulaOver (arities_of (bound_structure evaluator.old)) (form_of f.now) }
@@ -28,9 +27,7 @@ pub fn holds<'a>(evaluator: &mut Evaluator<'a>, f: &'a Formula, a: &Assignment) 
         (bound_structure evaluator.old).size }
     ensures truth { IsTrue result
         ↔ Truth (heap_of (bound_structure evaluator.old)) (assignment_of a.now) (form_of f.now) }
-    ensures bound { IsBound evaluator.new }
-    ensures structure { bound_structure evaluator.new ≡ bound_structure evaluator.old }
-    ensures room { bound_room evaluator.new ≡ bound_room evaluator.old }
+    ensures same { evaluator.new ≡ evaluator.old }
 {
     is_yes(evaluator.value(f, a))
 }

@@ -2,7 +2,7 @@
 
 ghost use Rattle.std.specs.Prelude.{◌≡◌, ◌≢◌, ◌↔◌, ◌<◌, ℕ, List, Any, IsTrue, length};
 ghost use Rattle.tv_kleene.specs.declared.K3.TheVariants.{Half};
-ghost use Rattle.tv_struct.specs.StructureForm.{arities_of, value_at};
+ghost use Rattle.tv_structure_form.specs.StructureForm.{arities_of, value_at};
 ghost use Rattle.tv_struct.specs.StructureRows.{HasArity};
 ghost use Rattle.tv_two_valued.specs.TwoValued.{IsTwoValued};
 

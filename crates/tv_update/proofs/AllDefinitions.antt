@@ -7,7 +7,7 @@ use Rattle.tv_model.specs.declared.formula.PredId.{PredId}
 use Rattle.tv_model.specs.declared.program.Program.{Program}
 use Rattle.tv_model.specs.Program.{ProgramForm, KindForm, KCore, KDefined, pred_of, program_of}
 use Rattle.tv_model.proofs.Lists.{Contains-map}
-use Rattle.tv_struct.specs.StructureForm.{StructureForm}
+use Rattle.tv_structure_form.specs.StructureForm.{StructureForm}
 use Rattle.tv_update_laws.specs.Applied.{kind_at}
 use Rattle.tv_update_laws.proofs.Predicates.{defined-found}
 use Rattle.tv_update.specs.Defined.{AreEvaluated}

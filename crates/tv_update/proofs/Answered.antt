@@ -13,9 +13,10 @@ use Rattle.tv_model.specs.Program.{ProgramForm, ActionForm, action_of, program_o
 use Rattle.tv_model.specs.Truth.{Assignment}
 use Rattle.tv_model.specs.Valid.{IsValid}
 use Rattle.tv_model.proofs.Lists.{Contains-map}
-use Rattle.tv_struct.specs.Halves.{row_halves}
-use Rattle.tv_struct.specs.StructureForm.{StructureForm, IsStructure, IsOver, structure_of, arities_of}
-use Rattle.tv_struct.specs.StructureForm.{with_new}
+use Rattle.tv_structure_form.specs.Halves.{row_halves}
+use Rattle.tv_structure_form.specs.StructureForm.{StructureForm, IsStructure, IsOver, structure_of}
+use Rattle.tv_structure_form.specs.StructureForm.{arities_of}
+use Rattle.tv_structure_form.specs.StructureForm.{with_new}
 use Rattle.tv_struct.specs.declared.analysis.StageError.{StageError}
 use Rattle.tv_struct.specs.declared.analysis.StageError.TheVariants.{Splits, Individuals, Memory}
 use Rattle.tv_eval.specs.AssignmentForm.{assignment_of, IsAssigned, individual_for}

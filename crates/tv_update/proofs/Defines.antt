@@ -20,10 +20,10 @@ use Rattle.tv_model.specs.Valid.{IsValid, IsKind}
 use Rattle.tv_model.proofs.Lists.{map-compose, Contains-here, Contains-there, Contains-none, Contains-cases}
 use Rattle.tv_model.proofs.Lists.{slice_get-contains}
 use Rattle.tv_model.proofs.Decided.{Contains-decided}
-use Rattle.tv_struct.specs.TableForm.{AreIndividuals}
-use Rattle.tv_struct.specs.StructureForm.{StructureForm, IsOver, structure_of, arities_of, value_at}
+use Rattle.tv_structure_form.specs.TableForm.{AreIndividuals}
+use Rattle.tv_structure_form.specs.StructureForm.{StructureForm, IsOver, structure_of, arities_of, value_at}
 use Rattle.tv_struct.specs.StructureRows.{HasArity}
-use Rattle.tv_struct.proofs.Library.{All-individuals, value_at-misfit}
+use Rattle.tv_structure_form.proofs.Library.{All-individuals, value_at-misfit}
 use Rattle.tv_eval_laws.specs.Value.{value}
 use Rattle.tv_eval_laws.specs.Laws.{LooksAlike, AgreesOn}
 use Rattle.tv_eval_laws.proofs.Embedded.{values_are_local}

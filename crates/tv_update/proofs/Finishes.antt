@@ -13,7 +13,7 @@ use Rattle.tv_model.specs.Program.{ProgramForm, PredForm, KindForm, KCore, KDefi
 use Rattle.tv_model.specs.Program.{action_of, pred_of, program_of}
 use Rattle.tv_model.specs.Truth.{Assignment}
 use Rattle.tv_model.proofs.Lists.{Contains-map}
-use Rattle.tv_struct.specs.StructureForm.{StructureForm, unmarked}
+use Rattle.tv_structure_form.specs.StructureForm.{StructureForm, unmarked}
 use Rattle.tv_eval.specs.ScratchForm.{ScratchForm}
 use Rattle.tv_update_laws.specs.Applied.{kind_at, IsChanged}
 use Rattle.tv_update_laws.proofs.Predicates.{defined-found}

@@ -13,13 +13,13 @@ use Rattle.tv_model.specs.Program.{ProgramForm, KindForm, KCore, KDefined, Actio
 use Rattle.tv_model.specs.Truth.{Assignment}
 use Rattle.tv_model.proofs.Decided.{Contains-decided}
 use Rattle.tv_model.proofs.Lists.{Contains-here, Contains-there}
-use Rattle.tv_struct.specs.Origins.{AreKept}
-use Rattle.tv_struct.specs.StructureForm.{StructureForm, IsStructure, structure_of, value_at, without}
-use Rattle.tv_struct.specs.StructureForm.{kept_from, unmarked}
-use Rattle.tv_struct.specs.Laws.{DrawnReads}
-use Rattle.tv_struct.proofs.Library.{AreIndividuals-range}
-use Rattle.tv_struct.proofs.OriginLaws.{are_kept}
-use Rattle.tv_struct.proofs.StructureLaws.{drawn_reads}
+use Rattle.tv_structure_form.specs.Origins.{AreKept}
+use Rattle.tv_structure_form.specs.StructureForm.{StructureForm, IsStructure, structure_of, value_at, without}
+use Rattle.tv_structure_form.specs.StructureForm.{kept_from, unmarked}
+use Rattle.tv_structure_form.specs.Laws.{DrawnReads}
+use Rattle.tv_structure_form.proofs.Library.{AreIndividuals-range}
+use Rattle.tv_structure_form.proofs.OriginLaws.{are_kept}
+use Rattle.tv_structure_form.proofs.StructureLaws.{drawn_reads}
 use Rattle.tv_update_laws.specs.Applied.{keep_value, defined_value, kind_at, update_at, IsChanged, new_value}
 use Rattle.tv_update_laws.specs.Applied.{IsNew}
 use Rattle.tv_update_laws.specs.Choices.{stays_in}

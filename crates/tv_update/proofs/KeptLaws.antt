@@ -7,8 +7,8 @@ use Rattle.std.proofs.lemmas.List.Elements.{All-head, All-tail}
 use Rattle.tv_kleene.specs.declared.K3.{K3}
 use Rattle.tv_kleene.specs.declared.K3.TheVariants.{No, Half, Yes}
 use Rattle.tv_model.proofs.Lists.{map-compose, map-agreed}
-use Rattle.tv_struct.specs.Halves.{row_halves}
-use Rattle.tv_struct.specs.StructureForm.{kept_from}
+use Rattle.tv_structure_form.specs.Halves.{row_halves}
+use Rattle.tv_structure_form.specs.StructureForm.{kept_from}
 use Rattle.tv_update_laws.specs.Choices.{with_choice, choices_of}
 use Rattle.tv_update.specs.Kept.{with_flag, flag_choices}
 

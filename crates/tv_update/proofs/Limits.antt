@@ -14,9 +14,9 @@ use Rattle.tv_model.specs.Truth.{Assignment}
 use Rattle.tv_model.specs.Valid.{IsValid}
 use Rattle.tv_model.proofs.Lists.{All-from_contains}
 use Rattle.tv_embedding_laws.specs.LogicalStructure.{LogicalStructure}
-use Rattle.tv_struct.specs.Halves.{row_halves}
-use Rattle.tv_struct.specs.StructureForm.{StructureForm, IsStructure, structure_of}
-use Rattle.tv_struct.proofs.Library.{Contains-range}
+use Rattle.tv_structure_form.specs.Halves.{row_halves}
+use Rattle.tv_structure_form.specs.StructureForm.{StructureForm, IsStructure, structure_of}
+use Rattle.tv_structure_form.proofs.Library.{Contains-range}
 use Rattle.tv_eval.specs.AssignmentForm.{assignment_of, IsAssigned}
 use Rattle.tv_eval.proofs.Parts.{individual_of}
 use Rattle.tv_update_laws.specs.Applied.{keep_value, IsMiddleOf}

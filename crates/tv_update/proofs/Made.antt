@@ -12,10 +12,10 @@ use Rattle.tv_model.specs.Form.{vars_of}
 use Rattle.tv_model.specs.Program.{change_of, update_of, ProgramForm, KindForm, KCore, KDefined, UpdateForm}
 use Rattle.tv_model.specs.Step.{update_for}
 use Rattle.tv_model.specs.Truth.{Assignment}
-use Rattle.tv_struct.specs.TableForm.{AreIndividuals}
-use Rattle.tv_struct.specs.StructureForm.{StructureForm, structure_of, arities_of, value_at}
+use Rattle.tv_structure_form.specs.TableForm.{AreIndividuals}
+use Rattle.tv_structure_form.specs.StructureForm.{StructureForm, structure_of, arities_of, value_at}
 use Rattle.tv_struct.specs.StructureRows.{HasArity}
-use Rattle.tv_struct.proofs.Library.{value_at-misfit}
+use Rattle.tv_structure_form.proofs.Library.{value_at-misfit}
 use Rattle.tv_eval.specs.ScratchForm.{ScratchForm}
 use Rattle.tv_update_laws.specs.Applied.{changed_value, updated_value, used_update, kind_at}
 use Rattle.tv_update_laws.proofs.Updates.{none-used}

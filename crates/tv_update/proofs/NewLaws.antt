@@ -3,7 +3,7 @@ use Rattle.std.proofs.Common.{ℕ, ◌≡◌, ◌<◌, ◌+◌, Bool, List, [], 
 use Rattle.std.proofs.lemmas.List.{take_more}
 use Rattle.tv_lemmas.proofs.Zips.{zip_push}
 use Rattle.tv_model.specs.Program.{ProgramForm}
-use Rattle.tv_struct.specs.StructureForm.{StructureForm}
+use Rattle.tv_structure_form.specs.StructureForm.{StructureForm}
 use Rattle.tv_update.specs.New.{IsFinished, AreFinished}
 
 pub finished_more : (p : ProgramForm) (order : List ℕ) (updated : StructureForm) (choices : List (List Bool))

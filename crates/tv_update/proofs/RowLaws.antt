@@ -12,8 +12,9 @@ use Rattle.tv_model.specs.declared.formula.Terms.TheVariants.{Zero as none, One 
 use Rattle.tv_model.specs.Form.{Form, vars_of}
 use Rattle.tv_model.specs.Program.{ChangeForm, CFree, CTo}
 use Rattle.tv_model.specs.Truth.{Assignment, put, put_all}
-use Rattle.tv_struct.specs.TableForm.{AreIndividuals, cell, row_of, column_of, row_count, column_count}
-use Rattle.tv_struct.specs.StructureForm.{StructureForm, structure_of}
+use Rattle.tv_structure_form.specs.TableForm.{AreIndividuals, cell, row_of, column_of, row_count}
+use Rattle.tv_structure_form.specs.TableForm.{column_count}
+use Rattle.tv_structure_form.specs.StructureForm.{StructureForm, structure_of}
 use Rattle.tv_eval_laws.specs.Value.{value}
 use Rattle.tv_eval.specs.Along.{values_along}
 use Rattle.tv_update_laws.specs.Applied.{changed_value}

@@ -9,8 +9,8 @@ use Rattle.tv_model.specs.Valid.{IsValid}
 use Rattle.tv_model.proofs.Lists.{Contains-map_back}
 use Rattle.tv_embedding_laws.specs.LogicalStructure.{LogicalStructure}
 use Rattle.tv_embedding_laws.specs.Embedding.{IsHeapOf}
-use Rattle.tv_struct.specs.StructureForm.{StructureForm, structure_of}
-use Rattle.tv_struct.proofs.StructureLaws.{same_structure}
+use Rattle.tv_structure_form.specs.StructureForm.{StructureForm, structure_of}
+use Rattle.tv_structure_form.proofs.StructureLaws.{same_structure}
 use Rattle.tv_update_laws.specs.Choices.{AreGiven}
 use Rattle.tv_update_laws.specs.Tables.{IsGivenOver, SaysSame}
 use Rattle.tv_update_laws.proofs.Choices.{update_loses_no_heap}

@@ -5,8 +5,8 @@ use Rattle.std.specs.Prelude.{IsTrue}
 use Rattle.std.specs.List.{AllByRecursion, range_with_len}
 use Rattle.std.proofs.lemmas.List.{length-replicate}
 use Rattle.std.proofs.lemmas.List.FromFn.{length-range_with_len}
-use Rattle.tv_struct.specs.TableForm.{plane_drawn, selected}
-use Rattle.tv_struct.specs.StructureForm.{StructureForm, IsStructure, kept_from, without}
+use Rattle.tv_structure_form.specs.TableForm.{plane_drawn, selected}
+use Rattle.tv_structure_form.specs.StructureForm.{StructureForm, IsStructure, kept_from, without}
 use Rattle.tv_model.specs.Program.{ProgramForm}
 use Rattle.tv_struct.proofs.WholeDraws.{all-selected, planes-themselves}
 use Rattle.tv_update.specs.Defined.{AreEvaluated}

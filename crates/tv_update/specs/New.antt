@@ -5,7 +5,7 @@ use Rattle.tv_model.specs.declared.formula.PredId.{PredId}
 use Rattle.tv_model.specs.declared.program.Program.{Program}
 use Rattle.tv_model.specs.Program.{ProgramForm, program_of}
 use Rattle.tv_model.specs.Valid.{IsValid}
-use Rattle.tv_struct.specs.StructureForm.{StructureForm, IsStructure, IsOver, without}
+use Rattle.tv_structure_form.specs.StructureForm.{StructureForm, IsStructure, IsOver, without}
 use Rattle.tv_eval.specs.ScratchForm.{ScratchForm, IsMadeFor}
 use Rattle.tv_update.specs.Defined.{AreEvaluated}
 use Rattle.tv_update.specs.Plan.{IsOrdered}

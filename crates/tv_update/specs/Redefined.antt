@@ -2,8 +2,8 @@
 use Rattle.std.specs.Prelude.{ℕ, ◌≡◌, ◌↔◌, true, List, [], None, Contains}
 use Rattle.tv_model.specs.Form.{Form}
 use Rattle.tv_model.specs.Program.{ProgramForm, KCore, KDefined, ActionForm}
-use Rattle.tv_struct.specs.TableForm.{AreIndividuals}
-use Rattle.tv_struct.specs.StructureForm.{StructureForm, structure_of, value_at}
+use Rattle.tv_structure_form.specs.TableForm.{AreIndividuals}
+use Rattle.tv_structure_form.specs.StructureForm.{StructureForm, structure_of, value_at}
 use Rattle.tv_update_laws.specs.Applied.{defined_value, kind_at}
 use Rattle.tv_update.specs.Plan.{IsDefined, IsOrdered}
 use Rattle.tv_update.specs.Rows.{IsLike}

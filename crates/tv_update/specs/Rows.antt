@@ -7,8 +7,9 @@ use Rattle.tv_model.specs.Form.{Form, IsFree}
 use Rattle.tv_model.specs.Program.{ChangeForm, CFree, CTo}
 use Rattle.tv_model.specs.Truth.{Assignment, put}
 use Rattle.tv_model.specs.Valid.{IsVariable, IsFormulaOver}
-use Rattle.tv_struct.specs.TableForm.{AreIndividuals, cell, row_of, column_of, row_count, column_count}
-use Rattle.tv_struct.specs.StructureForm.{StructureForm, structure_of, arities_of, value_at}
+use Rattle.tv_structure_form.specs.TableForm.{AreIndividuals, cell, row_of, column_of, row_count}
+use Rattle.tv_structure_form.specs.TableForm.{column_count}
+use Rattle.tv_structure_form.specs.StructureForm.{StructureForm, structure_of, arities_of, value_at}
 use Rattle.tv_eval_laws.specs.Value.{value}
 use Rattle.tv_eval.specs.Along.{values_along}
 use Rattle.tv_eval.specs.AssignmentForm.{IsAssigned}

@@ -6,7 +6,7 @@ use Rattle.tv_model.specs.Heap.{Heap}
 use Rattle.tv_model.specs.Program.{ProgramForm, ActionForm, program_of}
 use Rattle.tv_model.specs.Truth.{Assignment}
 use Rattle.tv_embedding_laws.specs.Embedding.{IsHeapOf}
-use Rattle.tv_struct.specs.StructureForm.{StructureForm, structure_of}
+use Rattle.tv_structure_form.specs.StructureForm.{StructureForm, structure_of}
 use Rattle.tv_struct.specs.declared.analysis.StageError.{StageError}
 use Rattle.tv_struct.specs.declared.analysis.StageError.TheVariants.{Splits, Individuals, Memory}
 use Rattle.tv_update_laws.specs.Choices.{AreNew, AreGiven}

@@ -13,9 +13,9 @@ use Rattle.tv_model.specs.Valid.{IsValid}
 use Rattle.tv_embedding_laws.specs.LogicalStructure.{LogicalStructure}
 use Rattle.tv_struct.specs.declared.analysis.StageError.{StageError}
 use Rattle.tv_struct.specs.declared.analysis.StageError.TheVariants.{Splits, Individuals, Memory}
-use Rattle.tv_struct.specs.Halves.{row_halves}
-use Rattle.tv_struct.specs.TableForm.{AreIndividuals}
-use Rattle.tv_struct.specs.StructureForm.{StructureForm, IsOver, structure_of, value_at}
+use Rattle.tv_structure_form.specs.Halves.{row_halves}
+use Rattle.tv_structure_form.specs.TableForm.{AreIndividuals}
+use Rattle.tv_structure_form.specs.StructureForm.{StructureForm, IsOver, structure_of, value_at}
 use Rattle.tv_struct.specs.StructureRows.{HasArity}
 use Rattle.tv_eval.specs.AssignmentForm.{IsAssigned}
 use Rattle.tv_eval.specs.ScratchForm.{ScratchForm, IsMadeFor}
@@ -65,7 +65,7 @@ pub record CanApply (program : Program) (action : Action) (places : List (Option
 abbrev pub keep_values : StructureForm → Assignment → Option RetainForm → List K3
 keep_values s picks retain = map (keep_value (structure_of s) picks retain) (range_with_len 0 s.size)
 
--- why nothing is made of the middle structure: too many unknown values, or want of memory
+-- why nothing is made of the middle structure: too many unknown values, or lack of memory
 abbrev pub IsPrepareCause : List K3 → StageError → Type 0
 IsPrepareCause values Splits = 12 < row_halves values
 IsPrepareCause values Individuals = ⊥

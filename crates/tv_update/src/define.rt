@@ -6,7 +6,7 @@ ghost use Rattle.tv_model.specs.Form.{form_of, vars_of};
 ghost use Rattle.tv_model.specs.Program.{program_of};
 ghost use Rattle.tv_model.specs.Rules.{blank};
 ghost use Rattle.tv_model.specs.Valid.{IsValid};
-ghost use Rattle.tv_struct.specs.StructureForm.{IsOver};
+ghost use Rattle.tv_structure_form.specs.StructureForm.{IsOver};
 ghost use Rattle.tv_struct.specs.StructureRows.{HasArity};
 ghost use Rattle.tv_eval.specs.ScratchForm.{IsMadeFor};
 ghost use Rattle.tv_update.specs.Defined.{IsEvaluated, AreEvaluated};

@@ -2,7 +2,7 @@
 
 ghost use Rattle.std.specs.Prelude.{◌≡◌, ◌≤◌, ◌++◌, ◌∷◌, [], length, map, All, IfOk, IsTrue, OnOk};
 ghost use Rattle.tv_kleene.specs.declared.K3.TheVariants.{Yes};
-ghost use Rattle.tv_struct.specs.Halves.{row_halves};
+ghost use Rattle.tv_structure_form.specs.Halves.{row_halves};
 ghost use Rattle.tv_update.specs.Kept.{flag_choices};
 
 use std::alloc::{AllocError, Global};
@@ -60,7 +60,7 @@ fn push_choices(
     }
 }
 
-/// The same for those that go on with this flag.
+/// Puts behind the others all choices that begin with `begun`, have this flag next, and go on so.
 #[cycle(push_choices)]
 fn push_with(
     alloc: Global,

@@ -2,7 +2,7 @@
 
 ghost use Rattle.std.specs.Prelude.{◌≡◌, ◌∷◌, [], true, None, length, map, replicate, All, IfOk, OnOk};
 ghost use Rattle.tv_model.specs.Program.{program_of};
-ghost use Rattle.tv_struct.specs.StructureForm.{IsStructure};
+ghost use Rattle.tv_structure_form.specs.StructureForm.{IsStructure};
 ghost use Rattle.tv_update.specs.New.{CanFinish, IsFinished, AreFinished};
 
 use crate::define::define_all;

@@ -1,9 +1,9 @@
 //! What is read in the middle structure.
 
 ghost use Rattle.std.specs.Prelude.{◌≡◌, ◌≤◌, IsTrue, IfOk, IfErr, OnOk};
-ghost use Rattle.tv_struct.specs.Halves.{row_halves};
-ghost use Rattle.tv_struct.specs.StructureForm.{StructureForm, IsStructure};
-ghost use Rattle.tv_eval.specs.Bound.{IsBound, bound_structure, bound_room};
+ghost use Rattle.tv_structure_form.specs.Halves.{row_halves};
+ghost use Rattle.tv_structure_form.specs.StructureForm.{StructureForm, IsStructure};
+ghost use Rattle.tv_eval.specs.Bound.{bound_structure, bound_room};
 ghost use Rattle.tv_update.specs.Applying.{CanBeApplied, IsUpdated, values_to_keep};
 ghost use Rattle.tv_update.specs.Staying.{AllStay, IsStaying};
 ghost use Rattle.tv_update.specs.Updated.{IsPrepareCause};
@@ -40,14 +40,11 @@ fn listed(alloc: Global, row: &Row) -> Result<Vec<K3>, AllocError>
 }
 
 /// The values of the retain formula, individual by individual; `Yes` where there is none.
-fn keep_row<'a>(applied: &Application<'a>, middle: &Structure, e: &mut Evaluator<'a>) -> Row
-    requires bound { IsBound e.old }
+fn keep_row<'a>(applied: &Application<'a>, middle: &Structure, e: &mut Evaluator<'_, 'a>) -> Row
     requires structure { bound_structure e.old ≡ middle.now }
     requires can { CanBeApplied applied.now middle.now (bound_room e.old) }
     ensures values { result ≡ values_to_keep applied.now middle.now }
-    ensures bound { IsBound e.new }
-    ensures structure { bound_structure e.new ≡ bound_structure e.old }
-    ensures room { bound_room e.new ≡ bound_room e.old }
+    ensures same { e.new ≡ e.old }
 {
     match &applied.action.retain {
         None => Row::of(middle.size(), K3::Yes),
@@ -87,17 +84,14 @@ fn staying<'a>(
     alloc: Global,
     applied: &Application<'a>,
     middle: &Structure,
-    e: &mut Evaluator<'a>,
+    e: &mut Evaluator<'_, 'a>,
 ) -> Result<Staying, StageError>
-    requires bound { IsBound e.old }
     requires structure { bound_structure e.old ≡ middle.now }
     requires can { CanBeApplied applied.now middle.now (bound_room e.old) }
     ensures staying { IfOk result (IsStaying (values_to_keep applied.now middle.now)) }
     ensures few { OnOk result (row_halves (values_to_keep applied.now middle.now) ≤ 12) }
     ensures cause { IfErr result (IsPrepareCause (values_to_keep applied.now middle.now)) }
-    ensures bound { IsBound e.new }
-    ensures structure { bound_structure e.new ≡ bound_structure e.old }
-    ensures room { bound_room e.new ≡ bound_room e.old }
+    ensures same { e.new ≡ e.old }
 {
     if stays_unasked(applied) {
         return Ok(Staying::Whole);
@@ -110,16 +104,13 @@ fn updated<'a>(
     alloc: Global,
     applied: &Application<'a>,
     middle: &Structure,
-    e: &mut Evaluator<'a>,
+    e: &mut Evaluator<'_, 'a>,
 ) -> Result<Structure, AllocError>
-    requires bound { IsBound e.old }
     requires structure { bound_structure e.old ≡ middle.now }
     requires can { CanBeApplied applied.now middle.now (bound_room e.old) }
     ensures made { IfOk result (IsUpdated applied.now middle.now) }
     ensures kept { IfOk result IsStructure }
-    ensures bound { IsBound e.new }
-    ensures structure { bound_structure e.new ≡ bound_structure e.old }
-    ensures room { bound_room e.new ≡ bound_room e.old }
+    ensures same { e.new ≡ e.old }
 {
     let mut t = middle.copy(alloc)?;
     let mut rows = Rows::new(alloc, middle.size());
@@ -139,9 +130,8 @@ pub fn prepare<'a>(
     alloc: Global,
     applied: &Application<'a>,
     middle: &Structure,
-    e: &mut Evaluator<'a>,
+    e: &mut Evaluator<'_, 'a>,
 ) -> Result<Prepared, StageError>
-    requires bound { IsBound e.old }
     requires structure { bound_structure e.old ≡ middle.now }
     requires can { CanBeApplied applied.now middle.now (bound_room e.old) }
     ensures staying { IfOk result
@@ -149,9 +139,7 @@ pub fn prepare<'a>(
     ensures few { OnOk result (row_halves (values_to_keep applied.now middle.now) ≤ 12) }
     ensures made { IfOk result (λ x. IsUpdated applied.now middle.now x.updated) }
     ensures cause { IfErr result (IsPrepareCause (values_to_keep applied.now middle.now)) }
-    ensures bound { IsBound e.new }
-    ensures structure { bound_structure e.new ≡ bound_structure e.old }
-    ensures room { bound_room e.new ≡ bound_room e.old }
+    ensures same { e.new ≡ e.old }
 {
     let _ = middle.size();
     let staying = staying(alloc, applied, middle, e)?;

@@ -4,7 +4,7 @@ ghost use Rattle.std.specs.Prelude.{◌≡◌, ◌≤◌, ◌∷◌, [], length,
 ghost use Rattle.tv_model.specs.Form.{form_of, vars_of};
 ghost use Rattle.tv_struct.specs.StructureRows.{HasArity};
 ghost use Rattle.tv_eval.specs.AssignmentForm.{assignment_of};
-ghost use Rattle.tv_eval.specs.Bound.{IsBound, bound_structure, bound_room};
+ghost use Rattle.tv_eval.specs.Bound.{bound_structure, bound_room};
 ghost use Rattle.tv_update.specs.Rows.{AreRows, CanFill, HasRows, rows_for, half_rows};
 
 use std::alloc::{AllocError, Global};
@@ -47,21 +47,18 @@ impl Rows {
     /// Holds the values of the formula at all tuples of individuals, put for the variables.
     pub fn fill<'a>(
         &mut self,
-        e: &mut Evaluator<'a>,
+        e: &mut Evaluator<'_, 'a>,
         vars: Terms,
         f: &'a Formula,
         a: &Assignment,
     ) -> Result<(), AllocError>
-        requires bound { IsBound e.old }
         requires size { self.old.size ≡ (bound_structure e.old).size }
         requires can { CanFill (bound_structure e.old) a.now (vars_of vars) (bound_room e.old)
             (form_of f.now) }
         ensures rows { OnOk result (rows_held self.new (vars_of vars) ≡ rows_for (bound_structure e.old)
             (assignment_of a.now) (vars_of vars) (form_of f.now)) }
         ensures size { self.new.size ≡ self.old.size }
-        ensures bound { IsBound e.new }
-        ensures structure { bound_structure e.new ≡ bound_structure e.old }
-        ensures room { bound_room e.new ≡ bound_room e.old }
+        ensures same { e.new ≡ e.old }
     {
         match vars {
             Terms::Zero => {
@@ -77,26 +74,23 @@ impl Rows {
         }
     }
 
-    /// The same for two variables.
+    /// Holds the values of the formula at all pairs of individuals, put for the two variables.
     #[tactic(auto, using(tv_lemmas::proofs::Lists::map_range_more))]
     fn fill_pairs<'a>(
         &mut self,
-        e: &mut Evaluator<'a>,
+        e: &mut Evaluator<'_, 'a>,
         v: Var,
         w: Var,
         f: &'a Formula,
         a: &Assignment,
     ) -> Result<(), AllocError>
-        requires bound { IsBound e.old }
         requires size { self.old.size ≡ (bound_structure e.old).size }
         requires can { CanFill (bound_structure e.old) a.now (v.0 ∷ w.0 ∷ []) (bound_room e.old)
             (form_of f.now) }
         ensures rows { OnOk result (self.new.pairs.items ≡ rows_for (bound_structure e.old)
             (assignment_of a.now) (v.0 ∷ w.0 ∷ []) (form_of f.now)) }
         ensures size { self.new.size ≡ self.old.size }
-        ensures bound { IsBound e.new }
-        ensures structure { bound_structure e.new ≡ bound_structure e.old }
-        ensures room { bound_room e.new ≡ bound_room e.old }
+        ensures same { e.new ≡ e.old }
     {
         self.pairs.clear();
         for u in 0..self.size {
@@ -126,7 +120,7 @@ impl Rows {
         }
     }
 
-    /// The same for two variables.
+    /// Holds `Half` at all pairs of individuals.
     fn fill_half_pairs(&mut self) -> Result<(), AllocError>
         requires { self.old.size ≤ 256 }
         ensures rows { OnOk result (self.new.pairs.items ≡ half_rows self.old.size 2) }

@@ -3,8 +3,8 @@
 ghost use Rattle.std.specs.Prelude.{◌≡◌, ◌<◌, ◌≤◌, [], ◌∷◌, length, map, All, IfOk, IfErr, OnOk};
 ghost use Rattle.tv_model.specs.Program.{program_of, action_of};
 ghost use Rattle.tv_model.specs.Valid.{IsValid};
-ghost use Rattle.tv_struct.specs.Halves.{row_halves};
-ghost use Rattle.tv_struct.specs.StructureForm.{IsOver, structure_of};
+ghost use Rattle.tv_structure_form.specs.Halves.{row_halves};
+ghost use Rattle.tv_structure_form.specs.StructureForm.{IsOver, structure_of};
 ghost use Rattle.tv_eval.specs.AssignmentForm.{IsAssigned, assignment_of};
 ghost use Rattle.tv_eval.specs.ScratchForm.{IsMadeFor};
 ghost use Rattle.tv_update_laws.specs.Choices.{AreGiven};
@@ -323,7 +323,7 @@ pub fn update(
     update_by_plan(alloc, program, action, mode, &plan, s, picks, scratch)
 }
 
-/// The same where the action's plan was made before, so that it is made once for many structures.
+/// The structures that an action gives from `s` under the picked individuals, by a plan made before.
 pub fn update_by_plan(
     alloc: Global,
     program: &Program,

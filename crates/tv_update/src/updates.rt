@@ -3,9 +3,9 @@
 ghost use Rattle.std.specs.Prelude.{◌≡◌, ◌<◌, ◌≤◌, Some, None, length, OnOk, if◌then◌else◌};
 ghost use Rattle.std.specs.List.{AllByRecursion};
 ghost use Rattle.tv_model.specs.Program.{UpdateForm, program_of, update_of};
-ghost use Rattle.tv_struct.specs.StructureForm.{IsOver};
+ghost use Rattle.tv_structure_form.specs.StructureForm.{IsOver};
 ghost use Rattle.tv_eval.specs.AssignmentForm.{assignment_of};
-ghost use Rattle.tv_eval.specs.Bound.{IsBound, bound_structure, bound_room};
+ghost use Rattle.tv_eval.specs.Bound.{bound_structure, bound_room};
 ghost use Rattle.tv_update_laws.specs.Applied.{used_update, kind_at};
 ghost use Rattle.tv_update.specs.Applying.{AreMadeIn};
 ghost use Rattle.tv_update.specs.Held.{rows_held};
@@ -37,21 +37,18 @@ pub fn counts(program: &Program, mode: Mode, p: PredId) -> bool
 
 /// Holds the values that the update gives in the evaluator's structure.
 fn fill_change<'a>(
-    e: &mut Evaluator<'a>,
+    e: &mut Evaluator<'_, 'a>,
     picks: &Assignment,
     w: &'a Update,
     rows: &mut Rows,
 ) -> Result<(), AllocError>
-    requires bound { IsBound e.old }
     requires can { CanMake (bound_structure e.old) picks.now (bound_room e.old) (update_of w.now) }
     requires size { (rows.old.size ≡ (bound_structure e.old).size) × (rows.old.size ≤ 256) }
     ensures values { OnOk result
         (rows_held rows.new (update_of w.now).vars ≡ change_rows (bound_structure e.old)
         (assignment_of picks.now) (update_of w.now).vars (update_of w.now).change) }
     ensures size { rows.new.size ≡ rows.old.size }
-    ensures bound { IsBound e.new }
-    ensures structure { bound_structure e.new ≡ bound_structure e.old }
-    ensures room { bound_room e.new ≡ bound_room e.old }
+    ensures same { e.new ≡ e.old }
 {
     match &w.change {
         Change::Free => rows.fill_half(w.vars),
@@ -63,13 +60,12 @@ fn fill_change<'a>(
 #[inline(never)]
 #[tactic(auto, using(crate::proofs::RowLaws::change_rows_are_rows, crate::proofs::RowLaws::few_vars))]
 fn make<'a>(
-    e: &mut Evaluator<'a>,
+    e: &mut Evaluator<'_, 'a>,
     picks: &Assignment,
     w: &'a Update,
     t: &mut Structure,
     rows: &mut Rows,
 ) -> Result<(), AllocError>
-    requires bound { IsBound e.old }
     requires can { CanMake (bound_structure e.old) picks.now (bound_room e.old) (update_of w.now) }
     requires like { IsLike (bound_structure e.old) t.old }
     requires size { rows.old.size ≡ t.old.size }
@@ -77,9 +73,7 @@ fn make<'a>(
         (change_rows (bound_structure e.old) (assignment_of picks.now) (update_of w.now).vars
         (update_of w.now).change)) }
     ensures size { rows.new.size ≡ rows.old.size }
-    ensures bound { IsBound e.new }
-    ensures structure { bound_structure e.new ≡ bound_structure e.old }
-    ensures room { bound_room e.new ≡ bound_room e.old }
+    ensures same { e.new ≡ e.old }
 {
     let _ = t.size();
     fill_change(e, picks, w, rows)?;
@@ -91,12 +85,11 @@ fn make<'a>(
 #[tactic(auto, using(crate::proofs::Made::none_made, crate::proofs::Made::passed_over))]
 pub fn make_all<'a>(
     applied: &Application<'a>,
-    e: &mut Evaluator<'a>,
+    e: &mut Evaluator<'_, 'a>,
     updates: &'a [Update],
     t: &mut Structure,
     rows: &mut Rows,
 ) -> Result<(), AllocError>
-    requires bound { IsBound e.old }
     requires over { IsOver applied.now.program.now.vocab (bound_structure e.old) }
     requires can { AllByRecursion (λ w. CanMake (bound_structure e.old) applied.now.picks.now
         (bound_room e.old) (update_of w)) updates.now }
@@ -104,9 +97,7 @@ pub fn make_all<'a>(
     requires size { rows.old.size ≡ t.old.size }
     ensures made { OnOk result (AreMadeIn applied.now (bound_structure e.old) updates.now t.old t.new) }
     ensures size { rows.new.size ≡ rows.old.size }
-    ensures bound { IsBound e.new }
-    ensures structure { bound_structure e.new ≡ bound_structure e.old }
-    ensures room { bound_room e.new ≡ bound_room e.old }
+    ensures same { e.new ≡ e.old }
 {
     match updates {
         [] => Ok(()),

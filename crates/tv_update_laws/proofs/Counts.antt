@@ -6,7 +6,7 @@ use Rattle.std.proofs.lemmas.List.Sums.{sum_by-cons}
 use Rattle.std.proofs.lemmas.Nat.{pow-add}
 use Rattle.tv_kleene.specs.declared.K3.{K3}
 use Rattle.tv_kleene.specs.declared.K3.TheVariants.{No, Half, Yes}
-use Rattle.tv_struct.specs.Halves.{half_of, row_halves}
+use Rattle.tv_structure_form.specs.Halves.{half_of, row_halves}
 use Rattle.tv_update_laws.specs.Choices.{with_choice, choices_of}
 use Rattle.tv_update_laws.specs.Tables.{ChoicesAreCounted}
 

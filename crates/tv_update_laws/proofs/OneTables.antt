@@ -11,8 +11,8 @@ use Rattle.tv_model.specs.Program.{ProgramForm, ActionForm}
 use Rattle.tv_model.specs.Truth.{Assignment}
 use Rattle.tv_model.specs.Valid.{IsValid, IsAction}
 use Rattle.tv_embedding_laws.specs.LogicalStructure.{LogicalStructure}
-use Rattle.tv_struct.specs.StructureForm.{StructureForm, structure_of, value_at}
-use Rattle.tv_struct.proofs.Library.{Contains-range, below-range, All-individuals}
+use Rattle.tv_structure_form.specs.StructureForm.{StructureForm, structure_of, value_at}
+use Rattle.tv_structure_form.proofs.Library.{Contains-range, below-range, All-individuals}
 use Rattle.tv_update_laws.specs.Applied.{keep_value, IsNew}
 use Rattle.tv_update_laws.specs.Choices.{choices_of, stays_in}
 use Rattle.tv_update_laws.specs.Tables.{SaysSame, GivenTablesAreOne}

@@ -11,14 +11,15 @@ use Rattle.std.proofs.lemmas.List.FromFn.{length-map-range_with_len, get_or-map-
 use Rattle.std.proofs.lemmas.List.Kept.{AllPairs-from_increasing}
 use Rattle.std.proofs.lemmas.List.{same_lists, get_or_default}
 use Rattle.tv_lemmas.proofs.Lists.{range_more}
-use Rattle.tv_struct.specs.TableForm.{AreIndividuals}
-use Rattle.tv_struct.specs.StructureForm.{StructureForm, IsStructure, structure_of, summary_at, with_new}
-use Rattle.tv_struct.specs.StructureForm.{arities_of, kept_from}
-use Rattle.tv_struct.specs.Laws.{DrawnReads}
-use Rattle.tv_struct.proofs.OriginLaws.{are_kept}
-use Rattle.tv_struct.proofs.DrawnLaws.{summary_at-past}
-use Rattle.tv_struct.proofs.StructureLaws.{drawn_reads}
-use Rattle.tv_struct.proofs.Library.{below-range, AreIndividuals-range}
+use Rattle.tv_structure_form.specs.TableForm.{AreIndividuals}
+use Rattle.tv_structure_form.specs.StructureForm.{StructureForm, IsStructure, structure_of, summary_at}
+use Rattle.tv_structure_form.specs.StructureForm.{with_new}
+use Rattle.tv_structure_form.specs.StructureForm.{arities_of, kept_from}
+use Rattle.tv_structure_form.specs.Laws.{DrawnReads}
+use Rattle.tv_structure_form.proofs.OriginLaws.{are_kept}
+use Rattle.tv_structure_form.proofs.DrawnLaws.{summary_at-past}
+use Rattle.tv_structure_form.proofs.StructureLaws.{drawn_reads}
+use Rattle.tv_structure_form.proofs.Library.{below-range, AreIndividuals-range}
 use Rattle.tv_update_laws.specs.Applied.{IsGrown}
 use Rattle.tv_update_laws.specs.Tables.{flag_at, middle_table, TablesAreMiddle, TablesAreKept}
 

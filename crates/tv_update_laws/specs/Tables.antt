@@ -8,10 +8,11 @@ use Rattle.tv_model.specs.Program.{ProgramForm, ActionForm}
 use Rattle.tv_model.specs.Truth.{Assignment}
 use Rattle.tv_model.specs.Valid.{IsValid}
 use Rattle.tv_embedding_laws.specs.LogicalStructure.{LogicalStructure}
-use Rattle.tv_struct.specs.Halves.{row_halves}
-use Rattle.tv_struct.specs.TableForm.{AreIndividuals}
-use Rattle.tv_struct.specs.StructureForm.{StructureForm, IsStructure, structure_of, arities_of, value_at}
-use Rattle.tv_struct.specs.StructureForm.{summary_at, with_new, without, kept_from}
+use Rattle.tv_structure_form.specs.Halves.{row_halves}
+use Rattle.tv_structure_form.specs.TableForm.{AreIndividuals}
+use Rattle.tv_structure_form.specs.StructureForm.{StructureForm, IsStructure, structure_of, arities_of}
+use Rattle.tv_structure_form.specs.StructureForm.{value_at}
+use Rattle.tv_structure_form.specs.StructureForm.{summary_at, with_new, without, kept_from}
 use Rattle.tv_update_laws.specs.Applied.{IsMiddleOf, keep_value}
 use Rattle.tv_update_laws.specs.Choices.{choices_of, AreGiven}
 

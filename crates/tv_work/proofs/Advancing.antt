@@ -12,11 +12,11 @@ use Rattle.tv_kleene.specs.Kleene.{larger_of}
 use Rattle.tv_model.specs.declared.program.Edge.{Edge}
 use Rattle.tv_model.proofs.Lists.{Contains-none, slice_get-contains}
 use Rattle.tv_listing.specs.ListingForm.{at_node}
-use Rattle.tv_struct.specs.StructureForm.{StructureForm}
+use Rattle.tv_structure_form.specs.StructureForm.{StructureForm}
 use Rattle.tv_step_laws.specs.Budgets.{KeepsBudgets}
 use Rattle.tv_step_laws.specs.Settled.{IsSettled}
 use Rattle.tv_step_laws.specs.Transfer.{AreResults, IsMessageValue, IsOpening}
-use Rattle.tv_work.specs.Analysed.{IsAtSource}
+use Rattle.tv_work.specs.Analyzed.{IsAtSource}
 use Rattle.tv_work.specs.Explored.{IsSearchState, AreSaid, Advances, IsOpenedIn, AreStepsDone, IsDoneAlong}
 use Rattle.tv_work.specs.Explored.{AreDone, DoesAlong, Does, KeepsListed, IsExplored}
 use Rattle.tv_work.specs.Reach.{Point, IsListed}

@@ -6,7 +6,7 @@ use Rattle.tv_struct.specs.declared.analysis.StageError.TheVariants.{Splits as s
 use Rattle.tv_struct.specs.declared.analysis.StageError.TheVariants.{Individuals as individuals}
 use Rattle.tv_struct.specs.declared.analysis.StageError.TheVariants.{Memory as memory}
 use Rattle.tv_step_laws.specs.Budgets.{IsStepCause}
-use Rattle.tv_work.specs.Analysed.{IsAtSource, IsWorkCause, IsMeetCause, work_error}
+use Rattle.tv_work.specs.Analyzed.{IsAtSource, IsWorkCause, IsMeetCause, work_error}
 use Rattle.tv_work.specs.Reach.{Point, AreMoreThan}
 use Rattle.tv_work.specs.declared.error.WorkError.{WorkError}
 use Rattle.tv_work.specs.declared.error.WorkError.TheVariants.{Structures, Splits, Individuals, Memory}

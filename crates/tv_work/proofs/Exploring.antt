@@ -14,12 +14,12 @@ use Rattle.tv_embedding_laws.proofs.EmbeddingLaws.{EmbedsOn-id}
 use Rattle.tv_listing.specs.ListingForm.{at_node}
 use Rattle.tv_listing.specs.declared.analysis.MessageLine.{MessageLine}
 use Rattle.tv_struct.specs.Order.{structure_cmp}
-use Rattle.tv_struct.specs.StructureForm.{StructureForm, IsStructure, IsOver, structure_of}
+use Rattle.tv_structure_form.specs.StructureForm.{StructureForm, IsStructure, IsOver, structure_of}
 use Rattle.tv_step_laws.specs.Closed.{IsClosed, IsCovered, IsOpened, IsFollowed, CoversRuns}
 use Rattle.tv_step_laws.specs.Transfer.{IsOpening}
 use Rattle.tv_step_laws.proofs.Exact.{results-once}
 use Rattle.tv_step_laws.proofs.Runs.{closed_listings_cover_runs}
-use Rattle.tv_work.specs.Analysed.{IsSaid, IsAnalysis}
+use Rattle.tv_work.specs.Analyzed.{IsSaid, IsAnalysis}
 use Rattle.tv_work.specs.Explored.{IsExplored, IsOpenedIn, IsDoneAlong}
 use Rattle.tv_work.specs.Reach.{Point, IsListed, IsStartPoint, IsDerivation, Leads}
 use Rattle.tv_work.specs.Task.{TaskForm, reached_in}

@@ -5,9 +5,9 @@ use Rattle.std.specs.Prelude.{All, AllPairs, Contains}
 use Rattle.std.proofs.lemmas.List.{length-append, length-set, get_or_default}
 use Rattle.std.proofs.lemmas.List.Elements.{Contains-append_left, Contains-push, Contains-push_cases}
 use Rattle.std.proofs.lemmas.List.Elements.{All-push}
-use Rattle.tv_struct.proofs.Library.{unmarked-same}
+use Rattle.tv_structure_form.proofs.Library.{unmarked-same}
 use Rattle.tv_listing.specs.ListingForm.{at_node, appended, HasEqual}
-use Rattle.tv_struct.specs.StructureForm.{StructureForm, unmarked}
+use Rattle.tv_structure_form.specs.StructureForm.{StructureForm, unmarked}
 use Rattle.tv_work.specs.Reach.{Point, IsListed, AreMoreThan}
 use Rattle.tv_work.specs.Search.{SearchForm, Waits, IsOnce, IsSearch, IsWithin, Grows, ListsOnly}
 use Rattle.tv_work.specs.declared.search.Waiting.{Waiting}

@@ -10,7 +10,7 @@ use Rattle.std.proofs.lemmas.List.Quantifiers.{all_pairs_push}
 use Rattle.tv_kleene.specs.declared.K3.{K3}
 use Rattle.tv_kleene.specs.declared.K3.TheVariants.{No, Half, Yes}
 use Rattle.tv_listing.specs.declared.analysis.MessageLine.{MessageLine}
-use Rattle.tv_work.specs.Analysed.{IsBefore}
+use Rattle.tv_work.specs.Analyzed.{IsBefore}
 use Rattle.tv_work.specs.Told.{told_value, IsTold, ComesBefore, AreLinesTo, AreLines, line_of}
 
 -- the line of this edge, number and value

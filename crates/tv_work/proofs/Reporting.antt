@@ -8,10 +8,10 @@ use Rattle.tv_model.specs.declared.program.Mode.{Mode}
 use Rattle.tv_model.specs.Program.{ProgramForm}
 use Rattle.tv_model.proofs.Lists.{All-from_contains}
 use Rattle.tv_listing.specs.declared.analysis.MessageLine.{MessageLine}
-use Rattle.tv_struct.specs.StructureForm.{StructureForm}
+use Rattle.tv_structure_form.specs.StructureForm.{StructureForm}
 use Rattle.tv_step_laws.specs.Closed.{IsCovered, IsFollowed, IsOpened, HasLine}
 use Rattle.tv_step_laws.specs.Transfer.{AreResults, IsMessageValue, IsOpening, HasNoOpening}
-use Rattle.tv_work.specs.Analysed.{IsSaid, IsReported}
+use Rattle.tv_work.specs.Analyzed.{IsSaid, IsReported}
 use Rattle.tv_work.specs.Reach.{Point}
 use Rattle.tv_work.specs.Told.{told_value, IsTold, AreLines}
 use Rattle.tv_work.proofs.Larger.{larger-both, larger-some}

@@ -13,10 +13,10 @@ use Rattle.tv_kleene.proofs.Lattice.{larger-either}
 use Rattle.tv_model.specs.Program.{ProgramForm}
 use Rattle.tv_model.specs.Valid.{IsAction, IsValid}
 use Rattle.tv_model.proofs.Lists.{slice_get-contains}
-use Rattle.tv_struct.specs.StructureForm.{StructureForm}
+use Rattle.tv_structure_form.specs.StructureForm.{StructureForm}
 use Rattle.tv_step_laws.specs.Transfer.{AreMessageValues, IsMessageValue, message_value}
 use Rattle.tv_step_laws.proofs.Exact.{values-once}
-use Rattle.tv_work.specs.Analysed.{IsAtSource, IsSaid}
+use Rattle.tv_work.specs.Analyzed.{IsAtSource, IsSaid}
 use Rattle.tv_work.specs.Explored.{AreSaid, KeepsListed}
 use Rattle.tv_work.specs.Reach.{Point, IsListed}
 use Rattle.tv_work.specs.Task.{TaskForm}

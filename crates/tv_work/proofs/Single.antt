@@ -9,8 +9,8 @@ use Rattle.tv_listing.specs.ListingForm.{at_node}
 use Rattle.tv_listing.specs.declared.analysis.MessageLine.{MessageLine}
 use Rattle.tv_step_laws.proofs.Exact.{sorted-same}
 use Rattle.tv_struct.specs.Order.{structure_cmp, structure_cmp_total}
-use Rattle.tv_struct.specs.StructureForm.{StructureForm}
-use Rattle.tv_work.specs.Analysed.{IsAnalysis, IsBefore}
+use Rattle.tv_structure_form.specs.StructureForm.{StructureForm}
+use Rattle.tv_work.specs.Analyzed.{IsAnalysis, IsBefore}
 use Rattle.tv_work.specs.Laws.{AnalysesAreOne}
 
 -- ---- lines in their order

@@ -14,7 +14,7 @@ use Rattle.tv_model.specs.Program.{program_of}
 use Rattle.tv_model.proofs.Lists.{All-from_contains, Contains-none}
 use Rattle.tv_listing.specs.ListingForm.{at_node, AreSorted}
 use Rattle.tv_struct.specs.Order.{structure_cmp}
-use Rattle.tv_struct.specs.StructureForm.{StructureForm, IsStructure, IsOver}
+use Rattle.tv_structure_form.specs.StructureForm.{StructureForm, IsStructure, IsOver}
 use Rattle.tv_step_laws.specs.Shaped.{IsShaped}
 use Rattle.tv_step_laws.proofs.Shapes.{shaped-over}
 use Rattle.tv_work.specs.Explored.{IsExplored, IsOpenedIn, KeepsListed}

@@ -3,8 +3,8 @@ use Rattle.std.specs.Prelude.{ℕ, ◌≡◌, List}
 use Rattle.tv_listing.specs.declared.analysis.MessageLine.{MessageLine}
 use Rattle.tv_model.specs.Program.{ProgramForm}
 use Rattle.tv_model.specs.declared.program.Mode.{Mode}
-use Rattle.tv_struct.specs.StructureForm.{StructureForm}
-use Rattle.tv_work.specs.Analysed.{IsAnalysis}
+use Rattle.tv_structure_form.specs.StructureForm.{StructureForm}
+use Rattle.tv_work.specs.Analyzed.{IsAnalysis}
 
 -- a program, a mode and initial structures have one analysis, whatever number of structures may be listed
 abbrev pub AnalysesAreOne : Type 0

@@ -1,5 +1,5 @@
 pub mod Reach
-pub mod Analysed
+pub mod Analyzed
 pub mod Task
 pub mod Laws
 pub mod Leaving

@@ -5,7 +5,7 @@ use Rattle.tv_kleene.specs.declared.K3.{K3}
 use Rattle.tv_kleene.specs.declared.K3.TheVariants.{No, Half, Yes}
 use Rattle.tv_kleene.specs.Kleene.{larger_of}
 use Rattle.tv_listing.specs.declared.analysis.MessageLine.{MessageLine}
-use Rattle.tv_work.specs.Analysed.{IsBefore}
+use Rattle.tv_work.specs.Analyzed.{IsBefore}
 
 -- the value of a message, No where nothing was told of it
 abbrev pub told_value : List (List K3) → (edge number : ℕ) → K3

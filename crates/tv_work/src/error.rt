@@ -42,7 +42,7 @@ impl<T: Drop> From<AllocFailed<T>> for WorkError {
 }
 
 impl From<StageError> for WorkError {
-    ghost use Rattle.tv_work.specs.Analysed.{work_error};
+    ghost use Rattle.tv_work.specs.Analyzed.{work_error};
 
     ghost from_gives = { λ fault e. e ≡ work_error fault };
 

@@ -10,8 +10,9 @@ mod search;
 mod task;
 mod told;
 
-pub use analysis::{analyse, analysis_of};
+pub use analysis::{analysis_of, analyze};
 pub use error::WorkError;
 pub use laws::analyses_are_one;
 pub use leaving::leaving_edges;
+pub use task::Task;
 pub use told::Told;

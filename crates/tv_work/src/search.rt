@@ -3,10 +3,10 @@
 ghost use Rattle.std.specs.Prelude.{ℕ, ◌≡◌, ◌<◌, ◌≤◌, ◌⊎◌, [], ◌∷◌, ◌++◌, length, replicate, OnOk, OnErr};
 ghost use Rattle.std.specs.Prelude.{IfOk, IfErr, IfSome, IfNone, Contains, Some, None, All, Any, slice_get};
 ghost use Rattle.tv_listing.specs.ListingForm.{at_node};
-ghost use Rattle.tv_struct.specs.StructureForm.{StructureForm, IsStructure};
+ghost use Rattle.tv_structure_form.specs.StructureForm.{StructureForm, IsStructure};
 ghost use Rattle.tv_work.specs.Reach.{Point, IsListed};
 ghost use Rattle.tv_work.specs.Search.{SearchForm, Grows, ListsOnly, IsOnce, IsWithin};
-ghost use Rattle.tv_work.specs.Analysed.{IsMeetCause};
+ghost use Rattle.tv_work.specs.Analyzed.{IsMeetCause};
 
 use crate::WorkError;
 use std::alloc::{AllocError, Global};

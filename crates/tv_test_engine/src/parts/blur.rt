@@ -1,7 +1,7 @@
 //! Rows of blur.
 
 ghost use Rattle.std.specs.Prelude.{◌≡◌, ◌<◌, ◌≤◌, [], ◌∷◌, map, IfOk, None};
-ghost use Rattle.tv_struct.specs.StructureForm.{arities_of};
+ghost use Rattle.tv_structure_form.specs.StructureForm.{arities_of};
 
 use super::shown::{blank, core, shown, vocabulary};
 use std::alloc::{AllocError, Global};

@@ -1,7 +1,7 @@
 //! Rows of embeddings.
 
 ghost use Rattle.std.specs.Prelude.{◌≡◌, ◌≤◌, [], ◌∷◌, IfOk};
-ghost use Rattle.tv_struct.specs.StructureForm.{arities_of};
+ghost use Rattle.tv_structure_form.specs.StructureForm.{arities_of};
 
 use super::shown::{blank, set_edge, shown};
 use std::alloc::{AllocError, Global};

@@ -3,7 +3,7 @@
 ghost use Rattle.std.specs.Prelude.{◌≡◌, ◌<◌, ◌≤◌, [], ◌∷◌, map, IfOk, None};
 ghost use Rattle.tv_model.specs.Form.{form_of};
 ghost use Rattle.tv_model.specs.Valid.{IsFormulaOver};
-ghost use Rattle.tv_struct.specs.StructureForm.{arities_of};
+ghost use Rattle.tv_structure_form.specs.StructureForm.{arities_of};
 
 use super::shown::core;
 use std::alloc::{AllocError, Global};

@@ -4,7 +4,7 @@
 //! that are listed at the node; or how many structures may be listed, initial structures, and how many are at
 //! each node and which messages are told, or why there is no answer.
 
-use super::analysed::{lists, outcome};
+use super::analyzed::{lists, outcome};
 use std::alloc::Global;
 use std::test::Fail;
 

@@ -1,6 +1,6 @@
 //! The budgets of a step.
 
-use super::analysed::outcome;
+use super::analyzed::outcome;
 use std::alloc::{AllocError, Global};
 use std::test::Fail;
 use tv_test_reader::{individuals, put_list};

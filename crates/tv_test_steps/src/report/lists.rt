@@ -1,6 +1,6 @@
 //! The traversal of a list, with the numbers of structures that a second program gives as well.
 
-use super::analysed::{lists, outcome};
+use super::analyzed::{lists, outcome};
 use std::alloc::Global;
 use std::test::Fail;
 

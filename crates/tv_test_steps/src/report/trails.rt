@@ -8,7 +8,7 @@
 ghost use Rattle.std.specs.Prelude.{All};
 ghost use Rattle.tv_model.specs.Program.{program_of};
 ghost use Rattle.tv_model.specs.Valid.{IsValid};
-ghost use Rattle.tv_struct.specs.StructureForm.{IsOver};
+ghost use Rattle.tv_structure_form.specs.StructureForm.{IsOver};
 
 use std::alloc::{AllocError, Global};
 use std::test::Fail;

@@ -2,8 +2,8 @@
 
 ghost use Rattle.std.specs.Prelude.{◌≡◌, ◌<◌, ◌≤◌, List, [], length, map, All, IfOk, slice_index_or};
 ghost use Rattle.std.specs.Prelude.{slice_set};
-ghost use Rattle.tv_struct.specs.TableForm.{TableForm, IsTable, cell, with_cell, row_of, column_of};
-ghost use Rattle.tv_struct.specs.TableForm.{plane_of_no, table_of_no};
+ghost use Rattle.tv_structure_form.specs.TableForm.{TableForm, IsTable, cell, with_cell, row_of, column_of};
+ghost use Rattle.tv_structure_form.specs.TableForm.{plane_of_no, table_of_no};
 ghost use Rattle.tv_struct.specs.TupleForm.{tuple_of};
 
 use std::alloc::{AllocError, Global};
@@ -69,7 +69,7 @@ struct Plane {
 }
 
 impl Model for Plane {
-    ghost use Rattle.tv_struct.specs.TableForm.{PlaneForm};
+    ghost use Rattle.tv_structure_form.specs.TableForm.{PlaneForm};
 
     ghost Value = { PlaneForm };
 
@@ -118,7 +118,7 @@ pub struct Nested {
 }
 
 impl Model for Nested {
-    ghost use Rattle.tv_struct.specs.TableForm.{TableForm, IsTable};
+    ghost use Rattle.tv_structure_form.specs.TableForm.{TableForm, IsTable};
 
     ghost Value = { TableForm };
 

@@ -1,7 +1,7 @@
 //! Each implementation of a table against a plain finite map.
 
 ghost use Rattle.std.specs.Prelude.{◌≡◌, ◌<◌, ◌≤◌, [], ◌∷◌, map, All, IfOk, IfSome};
-ghost use Rattle.tv_struct.specs.TableForm.{arities_in};
+ghost use Rattle.tv_structure_form.specs.TableForm.{arities_in};
 
 use super::nested::Nested;
 use std::alloc::{AllocError, Global};
@@ -137,7 +137,7 @@ fn structure_follows(alloc: Global, size: u32) -> Result<bool, AllocError>
 }
 
 /// Whether nested vectors of that size follow a map.
-#[tactic(auto, using(tv_struct::proofs::StructureLaws::arities_of_no))]
+#[tactic(auto, using(tv_structure_form::proofs::StructureLaws::arities_of_no))]
 fn nested_follows(alloc: Global, size: u32) -> Result<bool, AllocError>
     requires { size ≤ 256 }
 {

@@ -1,7 +1,7 @@
 //! Texts of structures, by example.
 
 ghost use Rattle.std.specs.Prelude.{◌≡◌, None, All};
-ghost use Rattle.tv_struct.specs.StructureForm.{IsOver};
+ghost use Rattle.tv_structure_form.specs.StructureForm.{IsOver};
 ghost use Rattle.tv_tvs.specs.Meaning.{IsVocabulary};
 
 use super::reader::vocabulary;

@@ -1,5 +1,5 @@
 use Rattle.std.proofs.Common.{arith, refl}
-use Rattle.tv_struct.specs.StructureForm.{structure_of}
+use Rattle.tv_structure_form.specs.StructureForm.{structure_of}
 use Rattle.tv_blur.specs.Names.{abstraction_preds}
 use Rattle.tv_blur.proofs.Ascended.{ascending-follows}
 use Rattle.tv_blur.proofs.ascending.are_ascending.Goals as goal

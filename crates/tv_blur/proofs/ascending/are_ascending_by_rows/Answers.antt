@@ -5,7 +5,7 @@ use Rattle.tv_kleene.specs.declared.K3.{K3}
 use Rattle.tv_kleene.specs.declared.K3.TheVariants.{No}
 use Rattle.std.specs.Prelude.{MatchBool}
 use Rattle.tv_model.specs.declared.program.Pred.{Pred}
-use Rattle.tv_struct.specs.StructureForm.{kept_from, structure_of}
+use Rattle.tv_structure_form.specs.StructureForm.{kept_from, structure_of}
 use Rattle.tv_struct.specs.StructureRows.{unary_row}
 use Rattle.tv_struct.proofs.Library.{length-unary_row}
 use Rattle.tv_blur.specs.Names.{abstraction_preds, is_abstraction}

@@ -6,7 +6,7 @@ use Rattle.tv_kleene.specs.declared.K3.{K3}
 use Rattle.tv_kleene.specs.declared.K3.TheVariants.{No}
 use Rattle.tv_row.proofs.RowOps.{no_word}
 use Rattle.tv_model.specs.declared.program.Pred.{Pred}
-use Rattle.tv_struct.specs.StructureForm.{arities_of, kept_from, structure_of}
+use Rattle.tv_structure_form.specs.StructureForm.{arities_of, kept_from, structure_of}
 use Rattle.tv_struct.specs.StructureRows.{unary_row}
 use Rattle.tv_blur.specs.Names.{abstraction_preds, is_abstraction}
 use Rattle.tv_blur.specs.Rising.{AddsRises, Falls, TellsRises}

@@ -1,5 +1,5 @@
 use Rattle.std.proofs.Common.{◌≡◌, ◌-◌, length, map, take}
-use Rattle.tv_struct.specs.StructureForm.{kept_from}
+use Rattle.tv_structure_form.specs.StructureForm.{kept_from}
 use Rattle.tv_blur.specs.Names.{is_abstraction}
 use Rattle.tv_blur.specs.Rising.{TellsRises}
 use Rattle.tv_blur.proofs.ascending.are_ascending_in.Given as goal

@@ -1,7 +1,7 @@
 use Rattle.std.proofs.Common.{◌≡◌, true, false, List, ℕ}
 use Rattle.std.proofs.lemmas.Result.{IfOk-weaker}
 use Rattle.tv_embedding_laws.specs.Embedding.{IsEmbedded}
-use Rattle.tv_struct.specs.StructureForm.{StructureForm, structure_of}
+use Rattle.tv_structure_form.specs.StructureForm.{StructureForm, structure_of}
 use Rattle.tv_blur.specs.Names.{abstraction_preds}
 use Rattle.tv_blur.specs.Blur.{IsBlur, IsBlurred}
 use Rattle.tv_blur.proofs.Ascended.{blurred-itself}

@@ -1,6 +1,6 @@
 use Rattle.std.proofs.Common.{ℕ, length, ap, arith}
 use Rattle.std.proofs.lemmas.Result.{IfOk-weaker}
-use Rattle.tv_struct.specs.StructureForm.{StructureForm, arities_of}
+use Rattle.tv_structure_form.specs.StructureForm.{StructureForm, arities_of}
 use Rattle.tv_blur.specs.Names.{abstraction_preds}
 use Rattle.tv_blur.specs.Blur.{IsBlur}
 use Rattle.tv_blur.specs.Classes.{HasMerged}

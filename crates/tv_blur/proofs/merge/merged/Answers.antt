@@ -1,6 +1,6 @@
 use Rattle.std.proofs.Common.{◌∙◌, ap, length}
-use Rattle.tv_struct.specs.StructureForm.{StructureForm, arities_of, value_at}
-use Rattle.tv_struct.proofs.StructureLaws.{new_is_no}
+use Rattle.tv_structure_form.specs.StructureForm.{StructureForm, arities_of, value_at}
+use Rattle.tv_structure_form.proofs.StructureLaws.{new_is_no}
 use Rattle.tv_blur.proofs.merge.merged.Goals as goal
 
 pub put_summaries-requires-clause-blank : goal.put_summaries-requires-clause-blank

@@ -1,6 +1,6 @@
 use Rattle.std.proofs.Common.{◌∙◌, ap}
 use Rattle.std.specs.Prelude.{slice_get}
-use Rattle.tv_struct.specs.StructureForm.{StructureForm}
+use Rattle.tv_structure_form.specs.StructureForm.{StructureForm}
 use Rattle.tv_struct.proofs.Library.{length-unary_row}
 use Rattle.tv_blur.proofs.FillLaws.{nowhere_merged, row_merged}
 use Rattle.tv_blur.proofs.merge.put_row.Goals as goal

@@ -1,7 +1,7 @@
 use Rattle.std.proofs.Common.{◌≡◌, ◌∙◌, ◌∷◌, ◌++◌, [], List, ap, arith, get_or, length, map, subst, sym, take}
 use Rattle.std.specs.Prelude.{if◌then◌else◌}
 use Rattle.tv_model.specs.declared.program.Pred.{Pred}
-use Rattle.tv_struct.specs.StructureForm.{kept_from}
+use Rattle.tv_structure_form.specs.StructureForm.{kept_from}
 use Rattle.tv_blur.specs.Names.{is_abstraction}
 use Rattle.tv_blur.specs.Naming.{TellNames}
 use Rattle.tv_blur.proofs.ClassLaws.{abstraction_more}

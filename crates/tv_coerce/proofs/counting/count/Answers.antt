@@ -1,10 +1,10 @@
 -- One member more.
+use Rattle.std.proofs.Common.{◌∙◌}
 use Rattle.std.proofs.Common.{subst, sym}
 use Rattle.std.proofs.lemmas.Option.{slice_get-get_or}
 use Rattle.tv_eval.specs.AssignmentForm.{assignment_of}
 use Rattle.tv_coerce.specs.Counting.{members_in}
 use Rattle.tv_coerce.proofs.Counts.{TellsBy, tells-more, tells-whole}
-use Rattle.tv_coerce.proofs.Walking.{stays-on}
 use Rattle.tv_coerce.proofs.counting.count.Goals as goal
 
 pub loop-step-preserved : goal.loop-step-preserved
@@ -12,7 +12,7 @@ loop-step-preserved c =
     let s = c.args.trial.now.structure.now
     in let can = c.requires.can c.loop-step.step-index _ c.loop-step-test.true
     in (
-      stays-on s c.args.evaluator.now c.loop-step.evaluator c.count_step.new.evaluator c.loop-step.invariant.0 c.count_step.ensures.stays,
+      c.count_step.ensures.same ∙ c.loop-step.invariant.0,
       c.if-is_no.ensures,
       subst (TellsBy s (assignment_of c.args.a.now) (members_in c.args.trial.now) c.args.steps.now _) (sym c.counted-found.ensures)
           (tells-more s (assignment_of c.args.a.now) (members_in c.args.trial.now) c.args.steps.now c.loop-step.step-index _ can.member

@@ -3,7 +3,7 @@ use Rattle.std.proofs.Common.{◌≡◌, Some, subst, sym}
 use Rattle.std.specs.Prelude.{IfOk}
 use Rattle.tv_rules.specs.EntryForms.{rules_of}
 use Rattle.tv_stable_laws.specs.Stable.{IsStable}
-use Rattle.tv_struct.specs.StructureForm.{StructureForm, structure_of}
+use Rattle.tv_structure_form.specs.StructureForm.{StructureForm, structure_of}
 use Rattle.tv_coerce.specs.RuleSets.{IsStableBut}
 use Rattle.tv_coerce.proofs.greatest.coerce_waiting.Goals as goal
 

@@ -1,7 +1,7 @@
 -- How far coerce has come; and what is left are unknown values.
 use Rattle.std.proofs.Common.{◌≡◌, []}
 use Rattle.tv_rules.specs.EntryForms.{rules_of}
-use Rattle.tv_struct.specs.Halves.{half_count}
+use Rattle.tv_structure_form.specs.Halves.{half_count}
 use Rattle.tv_coerce.specs.Attempts.{IsOnTheWay}
 use Rattle.tv_coerce.proofs.greatest.settle.Given as goal
 

@@ -3,7 +3,7 @@ use Rattle.std.proofs.Common.{[], ◌∷◌, ◌∙◌, ap, subst, sym}
 use Rattle.tv_kleene.specs.declared.K3.TheVariants.{Yes}
 use Rattle.tv_model.specs.Form.{FAtom}
 use Rattle.tv_coerce_members.specs.Members.{IsReadAs}
-use Rattle.tv_struct.specs.StructureForm.{structure_of, value_at}
+use Rattle.tv_structure_form.specs.StructureForm.{structure_of, value_at}
 use Rattle.tv_eval_laws.specs.Value.{same_value}
 use Rattle.tv_coerce.specs.Counting.{RestsOn}
 use Rattle.tv_coerce.proofs.Narrowing.{all-places, along-tells, atom-read, same-read}

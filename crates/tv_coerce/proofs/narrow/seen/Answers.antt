@@ -2,7 +2,7 @@
 use Rattle.std.proofs.Common.{arith, refl, subst, sym}
 use Rattle.tv_kleene.specs.declared.K3.TheVariants.{Yes}
 use Rattle.tv_eval_laws.specs.Value.{value}
-use Rattle.tv_struct.specs.StructureForm.{structure_of}
+use Rattle.tv_structure_form.specs.StructureForm.{structure_of}
 use Rattle.std.proofs.Common.{◌≢◌}
 use Rattle.tv_coerce.specs.Counting.{CountTells, IsBarring}
 use Rattle.tv_coerce.proofs.Narrowing.{all-places}

@@ -1,7 +1,7 @@
 use Rattle.std.proofs.Common.{◌≡◌, map, sym, ap, ◌∙◌}
 use Rattle.tv_model.specs.Form.{vars_of}
 use Rattle.tv_eval.specs.AssignmentForm.{assignment_of}
-use Rattle.tv_struct.specs.StructureForm.{value_at}
+use Rattle.tv_structure_form.specs.StructureForm.{value_at}
 use Rattle.tv_coerce.proofs.Heads.{atom_never, placed-tuple}
 use Rattle.tv_coerce.proofs.need.need_of_atom.Goals as goal
 

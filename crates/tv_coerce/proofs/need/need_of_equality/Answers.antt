@@ -2,7 +2,7 @@ use Rattle.std.proofs.Common.{sym, ap, subst, inl, refl, ◌∙◌}
 use Rattle.tv_model.specs.Program.{HSame}
 use Rattle.tv_stable_laws.specs.Stable.{IsHeadMet}
 use Rattle.tv_eval.specs.AssignmentForm.{assignment_of, individual_for}
-use Rattle.tv_struct.specs.StructureForm.{summary_at}
+use Rattle.tv_structure_form.specs.StructureForm.{summary_at}
 use Rattle.tv_coerce.proofs.Heads.{same-plain, placed}
 use Rattle.tv_coerce.proofs.need.need_of_equality.Goals as goal
 

@@ -1,5 +1,5 @@
 use Rattle.std.proofs.Common.{◌∙◌, ◌-◌, ◌*◌, [], ◌∷◌, ap, arith, min}
-use Rattle.tv_struct.specs.StructureForm.{value_at}
+use Rattle.tv_structure_form.specs.StructureForm.{value_at}
 use Rattle.tv_coerce_sets.proofs.Turning.{next-told, turned-unary}
 use Rattle.tv_coerce_sets.proofs.turned.turned_row.Goals as goal
 

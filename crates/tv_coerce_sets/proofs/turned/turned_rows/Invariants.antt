@@ -1,5 +1,5 @@
 use Rattle.std.proofs.Common.{ℕ, ◌<◌, [], ◌∷◌}
-use Rattle.tv_struct.specs.StructureForm.{value_at}
+use Rattle.tv_structure_form.specs.StructureForm.{value_at}
 use Rattle.tv_coerce_sets.specs.Turned.{Tells}
 use Rattle.tv_coerce_sets.proofs.turned.turned_rows.Given as goal
 

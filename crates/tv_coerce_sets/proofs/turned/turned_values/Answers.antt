@@ -1,5 +1,5 @@
 use Rattle.std.proofs.Common.{◌∙◌, [], Some, ap, subst}
-use Rattle.tv_struct.specs.StructureForm.{value_at}
+use Rattle.tv_structure_form.specs.StructureForm.{value_at}
 use Rattle.tv_coerce_sets.specs.Turned.{Tells}
 use Rattle.tv_coerce_sets.proofs.Turning.{turned-nullary}
 use Rattle.tv_coerce_sets.proofs.turned.turned_values.Goals as goal

@@ -1,6 +1,6 @@
 use Rattle.std.proofs.Common.{arith, subst}
 use Rattle.tv_kleene.specs.declared.K3.{K3}
-use Rattle.tv_struct.specs.StructureForm.{summary_at}
+use Rattle.tv_structure_form.specs.StructureForm.{summary_at}
 use Rattle.tv_struct.specs.StructureRows.{flag_value}
 use Rattle.tv_cover.specs.Glance.{value_near}
 use Rattle.tv_cover.proofs.GlanceLaws.{IsProfileTo, profile-first, profile-more, profile-all, absent-near}

@@ -1,5 +1,5 @@
 use Rattle.std.proofs.Common.{◌+◌}
-use Rattle.tv_struct.specs.StructureForm.{summary_at}
+use Rattle.tv_structure_form.specs.StructureForm.{summary_at}
 use Rattle.tv_struct.specs.StructureRows.{flag_value}
 use Rattle.tv_cover.specs.Glance.{value_near}
 use Rattle.tv_cover.proofs.GlanceLaws.{IsProfileTo}

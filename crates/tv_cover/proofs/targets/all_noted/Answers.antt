@@ -2,7 +2,7 @@ use Rattle.std.proofs.Common.{◌≤◌, List, length, ap, sym, ◌∙◌, arith
 use Rattle.std.specs.Prelude.{Some}
 use Rattle.std.proofs.lemmas.List.{length-map}
 use Rattle.tv_listing.specs.ListingForm.{at_node}
-use Rattle.tv_struct.specs.StructureForm.{StructureForm}
+use Rattle.tv_structure_form.specs.StructureForm.{StructureForm}
 use Rattle.tv_cover.specs.Glance.{glance_of}
 use Rattle.tv_cover.specs.Indexed.{glances_of}
 use Rattle.tv_cover.proofs.NotedLaws.{indexed-more, indexed-all, glance-at}

@@ -1,6 +1,6 @@
 use Rattle.std.proofs.Common.{◌≡◌}
 use Rattle.tv_lemmas.proofs.Lists.{All-found}
-use Rattle.tv_struct.specs.StructureForm.{arities_of}
+use Rattle.tv_structure_form.specs.StructureForm.{arities_of}
 use Rattle.tv_cover.specs.Listed.{structures_in}
 use Rattle.tv_cover.proofs.targets.cover_at.Goals as goal
 

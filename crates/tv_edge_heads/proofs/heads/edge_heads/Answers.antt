@@ -1,11 +1,11 @@
-use Rattle.std.proofs.Common.{◌≡◌, ◌+◌, ◌<◌, List, ◌∷◌, Option, length, map, drop, sym, ap, subst, ◌∙◌, arith}
+use Rattle.std.proofs.Common.{◌≡◌, ◌+◌, ◌<◌, List, ◌∷◌, length, map, drop, sym, ap, subst, ◌∙◌, arith}
 use Rattle.std.proofs.Math.ListN.{get_or-map}
 use Rattle.std.proofs.lemmas.List.{drop_more, length-map}
 use Rattle.std.proofs.lemmas.List.Elements.{All-get_or}
-use Rattle.tv_edge_places.specs.EdgePlaces.{IsOnLine}
-use Rattle.tv_lex.specs.Parts.{AreParts}
+use Rattle.tv_edge_heads.specs.EdgePlaces.{IsOnLine}
+use Rattle.tv_lex.specs.Parts.{IsMadeOf}
+use Rattle.tv_lex.specs.Traced.{Traced}
 use Rattle.tv_lex.specs.declared.gatherer.Gathered.{Gathered}
-use Rattle.tv_outside.specs.Told.{Held}
 use Rattle.tv_tree.specs.Copies.{edge_of, program_of}
 use Rattle.tv_tree.specs.declared.trees.EdgeTree.{EdgeTree}
 use Rattle.tv_edge_heads.specs.Heads.{AreHeadsAt, IsHead}
@@ -45,17 +45,17 @@ loop-number-preserved c =
     subst (IsOnLine text) (sym c.index.ensures)
     (All-get_or (IsOnLine text) places number place below
     (c.in_ok-places.ensures.lines text c.requires.reads c.requires.program)) in
-    let gives = subst (λ (g : Gathered). (told : Option Held) → AreParts told 0 g.parts.items g.bytes.items → IsOnLine g.bytes.items place → IsHead told g.bytes.items edge place c.in_ok-head.head) c.loop-number.invariant.same c.in_ok-head.ensures.head in
+    let gives = subst (λ (g : Gathered). (traced : List Traced) → IsMadeOf traced g → IsOnLine g.bytes.items place → IsHead traced edge place c.in_ok-head.head) c.loop-number.invariant.same c.in_ok-head.ensures.head in
     record {
       same = c.head_from.ensures.same ∙ c.loop-number.invariant.same;
-      heads = λ told parted.
-          subst (BeginHeads told text edges places (number + 1)) (sym c.in_ok-push.ensures.items)
-          (one_more told text edges places number c.loop-number.heads.items edge place c.in_ok-head.head here there
-          (gives told parted stands) (c.loop-number.invariant.heads told parted));
+      heads = λ traced made.
+          subst (BeginHeads traced edges places (number + 1)) (sym c.in_ok-push.ensures.items)
+          (one_more traced edges places number c.loop-number.heads.items edge place c.in_ok-head.head here there
+          (gives traced made stands) (c.loop-number.invariant.heads traced made));
     }
 
 pub returns : goal.returns
-returns c = λ told parted.
+returns c = λ traced made.
     let text = c.args.gathered.now.bytes.items in
     let read = c.as_slice-edges.result.now in
     let edges = map edge_of read in
@@ -66,12 +66,13 @@ returns c = λ told parted.
     let same : length edges ≡ length (map edge_of c.args.tree.now.edges) =
     ap (λ (es : List EdgeTree). length (map edge_of es)) c.as_slice-edges.ensures in
     record {
+      bytes = made.0;
       tokens = c.args.tokens.now.list.items;
       reads = c.requires.reads;
       places = places;
       stand = stand;
-      are = subst (λ (es : List EdgeTree). AreHeadsAt told text (map edge_of es) places heads) c.as_slice-edges.ensures
-          (all_heads told text edges places c.loop-number.number heads
+      are = subst (λ (es : List EdgeTree). AreHeadsAt traced (map edge_of es) places heads) c.as_slice-edges.ensures
+          (all_heads traced edges places c.loop-number.number heads
           (omega (arith, length-map read edge_of, c.loop-number-test.false)) (many ∙ sym same)
-          (c.loop-number.invariant.heads told parted));
+          (c.loop-number.invariant.heads traced made));
     }

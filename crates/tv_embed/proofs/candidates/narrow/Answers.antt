@@ -1,6 +1,6 @@
 use Rattle.std.proofs.Common.{◌≡◌, length}
 use Rattle.std.specs.Prelude.{Some, slice_get}
-use Rattle.tv_struct.specs.StructureForm.{arities_of}
+use Rattle.tv_structure_form.specs.StructureForm.{arities_of}
 use Rattle.tv_embed.proofs.AllowedLaws.{as_long, narrowed}
 use Rattle.tv_embed.proofs.candidates.narrow.Goals as goal
 

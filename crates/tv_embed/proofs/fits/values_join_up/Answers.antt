@@ -1,7 +1,7 @@
 use Rattle.std.proofs.Common.{◌≡◌, ◌<◌, arith, below_more, length, true, false}
 use Rattle.std.specs.Prelude.{Some, slice_get}
 use Rattle.tv_kleene.specs.Kleene.{LiesUnder}
-use Rattle.tv_struct.specs.StructureForm.{arities_of}
+use Rattle.tv_structure_form.specs.StructureForm.{arities_of}
 use Rattle.tv_struct.proofs.Library.{length-row_at}
 use Rattle.tv_embed.specs.Maps.{image_of}
 use Rattle.tv_embed.proofs.FitLaws.{rows-under}

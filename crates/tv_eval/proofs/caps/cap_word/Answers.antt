@@ -1,7 +1,7 @@
 use Rattle.std.proofs.Common.{rules, ℕ, ◌≡◌, inl, inr, sym, subst}
 use Rattle.tv_model.specs.Form.{Form, form_of, IsFree}
 use Rattle.tv_model.specs.Valid.{IsFormulaOver}
-use Rattle.tv_struct.specs.StructureForm.{arities_of}
+use Rattle.tv_structure_form.specs.StructureForm.{arities_of}
 use Rattle.tv_quantifiers.specs.Quantified.{quantified}
 use Rattle.tv_quantifiers.proofs.Opening.{formula-under, free-over}
 use Rattle.tv_eval.specs.AssignmentForm.{assignment_of}

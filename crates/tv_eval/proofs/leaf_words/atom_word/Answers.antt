@@ -1,5 +1,5 @@
 use Rattle.std.proofs.Common.{[]}
-use Rattle.tv_struct.specs.StructureForm.{value_at}
+use Rattle.tv_structure_form.specs.StructureForm.{value_at}
 use Rattle.tv_eval.proofs.AlongWords.{same-word}
 use Rattle.tv_eval.proofs.leaf_words.atom_word.Goals as goal
 

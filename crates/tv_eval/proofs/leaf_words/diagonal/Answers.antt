@@ -1,5 +1,5 @@
 use Rattle.std.proofs.Common.{◌∙◌, [], ◌∷◌, refl, arith}
-use Rattle.tv_struct.specs.StructureForm.{value_at}
+use Rattle.tv_structure_form.specs.StructureForm.{value_at}
 use Rattle.tv_quantifiers.proofs.Filled.{filled-none, filled-next, filled-all}
 use Rattle.tv_eval.proofs.leaf_words.diagonal.Goals as goal
 

@@ -1,6 +1,6 @@
 -- the values so far are found
 use Rattle.std.proofs.Common.{[], ◌∷◌}
-use Rattle.tv_struct.specs.StructureForm.{value_at}
+use Rattle.tv_structure_form.specs.StructureForm.{value_at}
 use Rattle.tv_quantifiers.proofs.Filled.{FilledTo}
 use Rattle.tv_eval.proofs.leaf_words.diagonal.Given as goal
 

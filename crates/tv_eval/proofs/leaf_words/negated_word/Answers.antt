@@ -2,7 +2,7 @@ use Rattle.std.proofs.Common.{◌∙◌, refl}
 use Rattle.tv_kleene.specs.Kleene.{negation_of}
 use Rattle.tv_model.specs.Form.{form_of}
 use Rattle.tv_model.specs.Truth.{put}
-use Rattle.tv_struct.specs.StructureForm.{structure_of}
+use Rattle.tv_structure_form.specs.StructureForm.{structure_of}
 use Rattle.tv_eval_laws.specs.Value.{value}
 use Rattle.tv_eval.specs.Along.{IsWordAlong}
 use Rattle.tv_eval.specs.AssignmentForm.{assignment_of}

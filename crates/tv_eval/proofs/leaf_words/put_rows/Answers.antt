@@ -1,7 +1,7 @@
 use Rattle.std.proofs.Common.{ℕ, ◌≡◌, ◌<◌, ◌+◌, ◌∙◌, [], ◌∷◌, length, get_or, refl, arith}
 use Rattle.tv_kleene.specs.declared.K3.{K3}
 use Rattle.tv_row.specs.Places.{entry_in}
-use Rattle.tv_struct.specs.StructureForm.{value_at}
+use Rattle.tv_structure_form.specs.StructureForm.{value_at}
 use Rattle.tv_eval.proofs.AlongLaws.{rows_put}
 use Rattle.tv_eval.proofs.leaf_words.put_rows.Goals as goal
 

@@ -1,7 +1,7 @@
 -- the rows so far are those of the predicate
 use Rattle.std.proofs.Common.{ℕ, ◌≡◌, ◌<◌, [], ◌∷◌, length, get_or}
 use Rattle.tv_row.specs.Places.{entry_in}
-use Rattle.tv_struct.specs.StructureForm.{value_at}
+use Rattle.tv_structure_form.specs.StructureForm.{value_at}
 use Rattle.tv_eval.proofs.leaf_words.put_rows.Given as goal
 
 abbrev pub invariant-loop-u : goal.invariant-loop-u

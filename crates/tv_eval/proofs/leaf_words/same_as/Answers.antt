@@ -1,6 +1,6 @@
 use Rattle.std.proofs.Common.{◌==◌, if◌then◌else◌}
 use Rattle.tv_kleene.specs.declared.K3.TheVariants.{No}
-use Rattle.tv_struct.specs.StructureForm.{structure_of}
+use Rattle.tv_structure_form.specs.StructureForm.{structure_of}
 use Rattle.tv_eval_laws.specs.Value.{same_value}
 use Rattle.tv_eval.proofs.AlongWords.{same-word, same_at}
 use Rattle.tv_eval.proofs.leaf_words.same_as.Goals as goal

@@ -3,7 +3,7 @@ use Rattle.tv_kleene.specs.declared.K3.{K3}
 use Rattle.tv_kleene.specs.declared.K3.TheVariants.{No, Half}
 use Rattle.tv_kleene.specs.Kleene.{negation_of}
 use Rattle.tv_model.specs.Truth.{put}
-use Rattle.tv_struct.specs.StructureForm.{structure_of, summary_at}
+use Rattle.tv_structure_form.specs.StructureForm.{structure_of, summary_at}
 use Rattle.tv_eval_laws.specs.Value.{same_value}
 use Rattle.tv_eval.specs.Along.{IsWordOf}
 use Rattle.tv_eval.specs.AssignmentForm.{assignment_of}

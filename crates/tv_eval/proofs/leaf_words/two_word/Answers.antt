@@ -1,6 +1,6 @@
 use Rattle.std.proofs.Common.{ℕ, ◌+◌, ◌*◌, ◌∙◌, [], ◌∷◌, sym}
 use Rattle.tv_model.specs.Truth.{put}
-use Rattle.tv_struct.specs.StructureForm.{value_at}
+use Rattle.tv_structure_form.specs.StructureForm.{value_at}
 use Rattle.tv_eval.specs.AssignmentForm.{assignment_of}
 use Rattle.tv_eval.proofs.AlongLaws.{atom_two, put_same, put_other}
 use Rattle.tv_eval.proofs.AlongWords.{same-word}

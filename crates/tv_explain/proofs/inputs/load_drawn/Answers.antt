@@ -1,5 +1,5 @@
 use Rattle.std.proofs.lemmas.Result.{IfOk-weaker}
-use Rattle.tv_lemmas.proofs.Options.{OnOk-any}
+use Rattle.tv_texts.proofs.Begins.{begins_anyway}
 use Rattle.tv_explain.proofs.inputs.load_drawn.Goals as goal
 
 pub returns-clause-means : goal.returns-clause-means
@@ -7,10 +7,10 @@ returns-clause-means g c = IfOk-weaker c.drawn_in.result _ _
     (λ drawn is. (
       c.in_ok-gathered.gathered.bytes.items,
       c.in_ok-gathered.ensures.text,
-      is _ c.in_ok-gathered.ensures.parts,
+      is _ c.args.name.now c.in_ok-gathered.ensures.parts,
     ))
     c.drawn_in.ensures.means
 
 pub returns-clause-begins : goal.returns-clause-begins
 returns-clause-begins g c =
-    OnOk-any c.drawn_in.result _ c.in_ok-gathered.ensures.begins
+    begins_anyway c.drawn_in.result _ _ _ _ c.in_ok-gathered.ensures.begins

@@ -1,6 +1,6 @@
 use Rattle.std.proofs.Common.{◌≡◌, map, take}
 use Rattle.std.specs.Prelude.{fold}
-use Rattle.tv_struct.specs.StructureForm.{structure_of}
+use Rattle.tv_structure_form.specs.StructureForm.{structure_of}
 use Rattle.tv_focus_laws.specs.FocusAtoms.{by_binary}
 use Rattle.tv_focus.specs.Anchored.{given_by_unary}
 use Rattle.tv_focus.specs.Seen.{atom_of, anchors_form}

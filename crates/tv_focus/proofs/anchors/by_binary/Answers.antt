@@ -1,7 +1,7 @@
 use Rattle.std.proofs.Common.{◌≡◌, ◌∙◌, List, [], ◌∷◌, ◌++◌, ap, map, true, false}
 use Rattle.std.specs.List.{list_any}
 use Rattle.std.proofs.lemmas.List.{map-append}
-use Rattle.tv_struct.specs.StructureForm.{structure_of, value_at}
+use Rattle.tv_structure_form.specs.StructureForm.{structure_of, value_at}
 use Rattle.tv_kleene.specs.Kleene.{is_yes}
 use Rattle.tv_focus_laws.specs.FocusAtoms.{AnchorsForm, is_anchored, anchors_of, ordinary}
 use Rattle.tv_focus.specs.declared.anchors.Place.TheVariants.{First, Second}

@@ -1,5 +1,5 @@
 use Rattle.std.proofs.Common.{◌≡◌, map, take}
-use Rattle.tv_struct.specs.StructureForm.{structure_of}
+use Rattle.tv_structure_form.specs.StructureForm.{structure_of}
 use Rattle.tv_focus.specs.Anchored.{given_by_unary}
 use Rattle.tv_focus.specs.Seen.{atom_of, anchors_form}
 use Rattle.tv_focus.proofs.anchors.unary_given.Given as goal

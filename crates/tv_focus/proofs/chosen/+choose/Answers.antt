@@ -1,7 +1,7 @@
 use Rattle.std.proofs.Common.{◌≡◌, ◌∙◌, List, [], ◌∷◌, ◌++◌, ap, sym, subst, arith, length, get_or}
 use Rattle.std.specs.List.{flat_map, between}
 use Rattle.std.proofs.lemmas.Slice.{first_rest}
-use Rattle.tv_struct.specs.StructureForm.{StructureForm}
+use Rattle.tv_structure_form.specs.StructureForm.{StructureForm}
 use Rattle.tv_focus_laws.specs.Choices.{ChoiceForm, VectorSet}
 use Rattle.tv_focus_laws.specs.Written.{chosen_table}
 use Rattle.tv_focus.specs.Puts.{chosen_tables}

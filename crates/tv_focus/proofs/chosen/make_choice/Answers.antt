@@ -1,5 +1,5 @@
 use Rattle.std.proofs.Common.{◌≡◌, ◌∙◌, ◌++◌, ap, sym, arith}
-use Rattle.tv_struct.specs.StructureForm.{StructureForm, split}
+use Rattle.tv_structure_form.specs.StructureForm.{StructureForm, split}
 use Rattle.tv_focus_laws.specs.Tables.{parts_of}
 use Rattle.tv_focus_laws.specs.Written.{written}
 use Rattle.tv_focus.specs.Puts.{choice_writes, aim_in}

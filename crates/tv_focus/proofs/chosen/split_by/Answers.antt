@@ -1,6 +1,6 @@
 use Rattle.std.proofs.Common.{◌≡◌, ◌∙◌, ap}
 use Rattle.std.proofs.lemmas.Result.{IfOk-weaker}
-use Rattle.tv_struct.specs.StructureForm.{arities_of, split}
+use Rattle.tv_structure_form.specs.StructureForm.{arities_of, split}
 use Rattle.tv_focus.proofs.Whole.{whole_stays}
 use Rattle.tv_focus.proofs.chosen.split_by.Goals as goal
 

@@ -1,7 +1,7 @@
 use Rattle.std.proofs.Common.{◌≡◌, ◌≤◌, ◌*◌, min}
 use Rattle.std.specs.Prelude.{fold}
 use Rattle.std.specs.List.{range_with_len}
-use Rattle.tv_struct.specs.StructureForm.{structure_of, summary_at}
+use Rattle.tv_structure_form.specs.StructureForm.{structure_of, summary_at}
 use Rattle.tv_focus_laws.specs.Counts.{few_sets, halves_at}
 use Rattle.tv_focus.specs.Seen.{aim_of}
 use Rattle.tv_focus.proofs.count.few_choices.Given as goal

@@ -1,5 +1,5 @@
 use Rattle.std.proofs.Common.{◌∙◌, ap}
-use Rattle.tv_struct.specs.StructureForm.{value_at}
+use Rattle.tv_structure_form.specs.StructureForm.{value_at}
 use Rattle.tv_focus_laws.specs.Counts.{halves}
 use Rattle.tv_focus.proofs.Aims.{before_values, behind_values}
 use Rattle.tv_focus.proofs.count.halves_at.Goals as goal

@@ -1,4 +1,4 @@
-use Rattle.tv_struct.specs.StructureForm.{value_at}
+use Rattle.tv_structure_form.specs.StructureForm.{value_at}
 use Rattle.tv_focus.proofs.Aims.{before_values, behind_values}
 use Rattle.tv_focus.proofs.Lines.{alone-known}
 use Rattle.tv_focus.proofs.known.are_known.Goals as goal

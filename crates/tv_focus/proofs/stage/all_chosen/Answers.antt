@@ -1,5 +1,5 @@
 use Rattle.std.proofs.Common.{◌∙◌, ◌++◌, [], ap}
-use Rattle.tv_struct.specs.StructureForm.{structure_of}
+use Rattle.tv_structure_form.specs.StructureForm.{structure_of}
 use Rattle.tv_focus_laws.specs.Choices.{sets_in}
 use Rattle.tv_focus_laws.specs.Written.{chosen_table}
 use Rattle.tv_focus.specs.Puts.{IsChoiceOf, chosen_tables}

@@ -1,6 +1,6 @@
 use Rattle.std.proofs.Common.{◌≡◌, map}
 use Rattle.std.specs.List.{range_with_len}
-use Rattle.tv_struct.specs.StructureForm.{structure_of, summary_at}
+use Rattle.tv_structure_form.specs.StructureForm.{structure_of, summary_at}
 use Rattle.tv_focus_laws.specs.Choices.{sets_of, aimed}
 use Rattle.tv_focus.specs.Seen.{aim_of}
 use Rattle.tv_focus.proofs.stage.all_sets.Given as goal

@@ -1,6 +1,6 @@
 use Rattle.std.proofs.Common.{ℕ, List, sym, subst, arith, All, map}
 use Rattle.std.proofs.lemmas.List.{length-map, get_or-map}
-use Rattle.tv_struct.specs.StructureForm.{arities_of}
+use Rattle.tv_structure_form.specs.StructureForm.{arities_of}
 use Rattle.tv_focus.specs.Seen.{atom_of}
 use Rattle.tv_focus.specs.Anchored.{IsAtomOver}
 use Rattle.tv_focus.specs.declared.atoms.FocusAtom.{FocusAtom}

@@ -1,4 +1,4 @@
-use Rattle.tv_struct.specs.StructureForm.{value_at}
+use Rattle.tv_structure_form.specs.StructureForm.{value_at}
 use Rattle.tv_focus.proofs.Aims.{before_values, behind_values}
 use Rattle.tv_focus.proofs.stage.values_at.Goals as goal
 

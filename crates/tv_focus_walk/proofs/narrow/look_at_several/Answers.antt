@@ -1,5 +1,5 @@
 use Rattle.std.proofs.Common.{◌≡◌, ◌∙◌, false, rules, refl, subst, sym, length}
-use Rattle.tv_struct.specs.StructureForm.{summary_at}
+use Rattle.tv_structure_form.specs.StructureForm.{summary_at}
 use Rattle.tv_focus.specs.Seen.{aim_of}
 use Rattle.tv_focus_walk.proofs.Coercing.{are-plain}
 use Rattle.tv_focus_walk.proofs.Foretelling.{ordinary-refutes}

@@ -1,6 +1,6 @@
 use Rattle.std.proofs.Common.{subst, sym}
 use Rattle.tv_focus.specs.Seen.{aim_of}
-use Rattle.tv_struct.specs.StructureForm.{IsStructure}
+use Rattle.tv_structure_form.specs.StructureForm.{IsStructure}
 use Rattle.tv_focus_laws.proofs.Writes.{IsWritten, is_written}
 use Rattle.tv_focus_step_laws.specs.Above.{writes_at}
 use Rattle.tv_focus_walk.specs.Walk.{IsNoted, walk_pred}

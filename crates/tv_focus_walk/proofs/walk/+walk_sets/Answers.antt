@@ -3,7 +3,7 @@ use Rattle.std.proofs.Common.{length, get_or}
 use Rattle.std.specs.Prelude.{OnOk}
 use Rattle.std.specs.List.{between, flat_map}
 use Rattle.std.proofs.lemmas.Slice.{first_rest}
-use Rattle.tv_struct.specs.StructureForm.{StructureForm}
+use Rattle.tv_structure_form.specs.StructureForm.{StructureForm}
 use Rattle.tv_focus_laws.specs.Choices.{ChoiceForm, VectorSet}
 use Rattle.tv_focus.specs.Seen.{aim_of}
 use Rattle.tv_focus.specs.Puts.{AreChosen, chosen_tables}

@@ -1,6 +1,6 @@
 use Rattle.std.proofs.Common.{◌∙◌, [], ◌∷◌, ap, subst, sym}
 use Rattle.std.proofs.lemmas.List.{append-nil}
-use Rattle.tv_struct.specs.StructureForm.{StructureForm, IsStructure, arities_of}
+use Rattle.tv_structure_form.specs.StructureForm.{StructureForm, IsStructure, arities_of}
 use Rattle.tv_coerce.specs.RuleSets.{IsStableBut}
 use Rattle.tv_rules.specs.EntryForms.{rules_of}
 use Rattle.tv_step_laws.specs.Transfer.{Coerces}

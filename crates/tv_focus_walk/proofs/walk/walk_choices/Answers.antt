@@ -1,6 +1,6 @@
 use Rattle.std.proofs.Common.{◌≡◌, ◌∙◌, ◌≤◌, [], ap, sym, subst, length, arith, All}
 use Rattle.std.specs.Prelude.{OnOk}
-use Rattle.tv_struct.specs.StructureForm.{structure_of}
+use Rattle.tv_structure_form.specs.StructureForm.{structure_of}
 use Rattle.tv_focus_laws.specs.Choices.{sets_in}
 use Rattle.tv_focus.specs.Focused.{tables_in}
 use Rattle.tv_focus.specs.Puts.{AreChosen, chosen_tables}

@@ -1,7 +1,7 @@
 use Rattle.std.proofs.Common.{List, subst}
 use Rattle.std.specs.Result.{IfOk}
 use Rattle.tv_listing.specs.ListingForm.{AreSorted}
-use Rattle.tv_struct.specs.StructureForm.{StructureForm}
+use Rattle.tv_structure_form.specs.StructureForm.{StructureForm}
 use Rattle.tv_join.proofs.Nodes.{listing-same}
 use Rattle.tv_join.proofs.joined.answer.Goals as goal
 

@@ -1,6 +1,6 @@
 use Rattle.std.proofs.Common.{◌∙◌, ap, length, refl, sym}
 use Rattle.std.specs.Prelude.{slice_get}
-use Rattle.tv_struct.specs.StructureForm.{StructureForm}
+use Rattle.tv_structure_form.specs.StructureForm.{StructureForm}
 use Rattle.tv_struct.proofs.Library.{length-unary_row}
 use Rattle.tv_join.proofs.Copying.{copied-row, nowhere-none}
 use Rattle.tv_join.proofs.Entries.{same-everywhere}

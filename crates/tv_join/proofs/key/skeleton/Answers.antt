@@ -1,5 +1,5 @@
 use Rattle.std.proofs.Common.{ℕ, ◌∙◌, ap, arith}
-use Rattle.tv_struct.specs.StructureForm.{arities_of, structure_of_no}
+use Rattle.tv_structure_form.specs.StructureForm.{arities_of, structure_of_no}
 use Rattle.tv_join.proofs.Copying.{copied-none, copied-all}
 use Rattle.tv_join.proofs.key.skeleton.Goals as goal
 

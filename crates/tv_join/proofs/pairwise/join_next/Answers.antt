@@ -1,7 +1,7 @@
 use Rattle.std.proofs.Common.{◌∙◌, ap, refl, sym}
 use Rattle.tv_kleene.specs.Kleene.{join_of}
 use Rattle.tv_kleene.proofs.Lattice.{join-same}
-use Rattle.tv_struct.specs.StructureForm.{value_at}
+use Rattle.tv_structure_form.specs.StructureForm.{value_at}
 use Rattle.tv_join.proofs.pairwise.join_next.Goals as goal
 
 pub returns-then-counted-p-clause-changes : goal.returns-then-counted-p-clause-changes

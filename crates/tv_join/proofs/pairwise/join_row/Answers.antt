@@ -1,6 +1,6 @@
 use Rattle.std.proofs.Common.{◌∙◌, ap}
 use Rattle.std.specs.Prelude.{slice_get}
-use Rattle.tv_struct.specs.StructureForm.{StructureForm}
+use Rattle.tv_structure_form.specs.StructureForm.{StructureForm}
 use Rattle.tv_struct.specs.StructureRows.{unary_row}
 use Rattle.tv_join.proofs.Joining.{joined-row, joined-row-length, joined-values}
 use Rattle.tv_join.proofs.pairwise.join_row.Goals as goal

@@ -1,6 +1,6 @@
 use Rattle.std.proofs.Common.{◌≡◌, ◌<◌, ◌^◌, All, List, [], length, ap, subst, sym, arith}
 use Rattle.std.specs.Prelude.{IfOk, IfSome, IfNone}
-use Rattle.tv_struct.specs.StructureForm.{StructureForm, arities_of}
+use Rattle.tv_structure_form.specs.StructureForm.{StructureForm, arities_of}
 use Rattle.tv_cover.specs.Covers.{IsFirstCover}
 use Rattle.tv_step_laws.specs.Closed.{IsCovered}
 use Rattle.tv_judge.proofs.Reports.{listed-alike, targets-at}

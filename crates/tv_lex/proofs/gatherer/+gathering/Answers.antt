@@ -1,6 +1,7 @@
 use Rattle.std.proofs.Common.{rules, ◌≡◌, ◌<◌, ◌≤◌, ◌-◌, ◌++◌, Ok, sym, refl, ap, subst, ◌∙◌, arith, length}
 use Rattle.std.proofs.Common.{false}
 use Rattle.std.proofs.Common.{false-eqb, vec_len}
+use Rattle.std.proofs.lemmas.Bool.{eqb-true}
 use Rattle.std.proofs.lemmas.Result.{err_from_is_err_and, on_ok_weaker}
 use Rattle.tv_lex.specs.Include.{inner_name}
 use Rattle.tv_lex.specs.Gather.{file_events, included, below}
@@ -8,11 +9,11 @@ use Rattle.tv_lex.proofs.Gathering.{read_cause, putting_start, beginning_start, 
 use Rattle.tv_lex.proofs.Gathering.{line_more, line_cut, cause_within, include_put, include_begins}
 use Rattle.tv_lex.proofs.Gathering.{include_refused, Putting, Beginning, up_to, unread_begins, line_begins}
 use Rattle.tv_lex.proofs.Gathering.{front_begins, include_is}
-use Rattle.tv_lex.specs.Parts.{AreParts}
 use Rattle.tv_lex.specs.declared.gatherer.Reading.{Reading}
-use Rattle.tv_lex.proofs.Parting.{feed_more, file_begins, include_put as include_opens, line_in_front}
-use Rattle.tv_lex.proofs.Parting.{line_put}
-use Rattle.tv_lex.proofs.Parting.{line_read, rest_is, rest_shorter}
+use Rattle.tv_lex.proofs.Parting.{feed_put, file_begins, file_put, include_put as include_opens}
+use Rattle.tv_lex.proofs.Parting.{include_traced, line_in_front}
+use Rattle.tv_lex.proofs.Parting.{included_line, line_put, line_read, plain_line, rest_is, rest_shorter}
+use Rattle.tv_lex.specs.Traced.{in_line, traced_below, traced_file, traced_include}
 use Rattle.tv_lex.proofs.gatherer.+gathering.Goals as goal
 
 pub put_file-returns-in_err-content-clause-cause :
@@ -39,7 +40,7 @@ put_file-loop-rest-init g t c =
       told.steady,
       search rules,
       omega (arith, number, short),
-      λ parted. file_begins (f.holds c.args.files.now) c.args.name.now c.as_slice-rest.result.now c.args.out.now.bytes.items c.args.out.now.parts.items c.reading_at-reading.result (rw c.as_slice-rest.ensures.value told.content) short parted start (ap (λ (r : Reading). r.first) c.reading_at-reading.ensures) number,
+      file_begins (f.holds c.args.files.now) c.args.name.now c.as_slice-rest.result.now c.args.left c.args.out.now c.reading_at-reading.result (rw c.as_slice-rest.ensures.value told.content) inside start (ap (λ (r : Reading). r.first) c.reading_at-reading.ensures) number,
     )
 
 pub put_file-returns-in_err-reading-clause-cause : goal.put_file-returns-in_err-reading-clause-cause
@@ -68,8 +69,8 @@ put_file-loop-rest-preserved g t c =
       said.holds ∙ inv.3,
       λ s. let before = inv.4 s in let now = said.steady before.0 in (now.0, now.1 ∙ before.1),
       said.fits,
-      rest_shorter rest c.split_at.result.0.now c.split_at.result.1.now c.loop-rest.reading.number c.in_ok-reading.reading.number split is_line.0 said.number inv.6,
-      λ parted. line_read (f.holds c.args.files.now) (f.holds c.loop-rest.files) c.args.name.now rest c.split_at.result.0.now c.split_at.result.1.now c.loop-rest.out.bytes.items c.put_line.new.out.bytes.items c.loop-rest.out.parts.items c.put_line.new.out.parts.items c.loop-rest.reading c.in_ok-reading.reading inv.3 split is_line (inv.7 parted) said.parts,
+      rest_shorter rest c.split_at.result.0.now c.split_at.result.1.now c.loop-rest.reading.number c.in_ok-reading.reading.number split is_line.some said.number inv.6,
+      line_read (f.holds c.args.files.now) (f.holds c.loop-rest.files) c.args.name.now rest c.split_at.result.0.now c.split_at.result.1.now c.args.left c.args.out.now c.loop-rest.out c.put_line.new.out c.loop-rest.reading c.in_ok-reading.reading inv.3 split cut is_line said.next said.number inv.7 said.parts,
     )
 
 pub put_include-returns-in_err-put_file-clause-cause :
@@ -111,24 +112,46 @@ put_include-returns-clause-begins g t c =
 pub put_include-returns-clause-parts : goal.put_include-returns-clause-parts
 put_include-returns-clause-parts g t c =
     let told = g.F.Files.holds c.args.files.now in
-    let parts = c.put_file.new.out.parts.items in
+    let left = c.args.left in
+    let inner = c.as_str.result.now in
+    let some : 0 < left = omega (arith, c.if-left-eq0.false) in
+    let named : inner ≡ inner_name c.args.name.now c.in-Some.written.now = ◌∙◌ {c = inner_name c.args.name.now c.in-Some.written.now} c.as_str.ensures.value c.in_ok-inner.ensures in
     on_ok_weaker c.put_bytes.result
-    (λ is. λ parted. subst (AreParts told 0 parts) (sym is) (feed_more told 0 parts c.put_file.new.out.bytes.items (c.in_ok-put_file.ensures.parts parted)))
+    (λ is. feed_put told (λ held. traced_file held (left - 1) inner) (λ held. traced_include (traced_below held left) c.args.name.now c.args.line.now) c.args.out.now c.put_file.new.out (record c.put_file.new.out { bytes = c.put_bytes.new.out }) c.in_ok-put_file.ensures.parts
+    (λ held. include_traced held c.args.name.now c.args.line.now c.in-Some.written.now inner left (sym c.in-Some.ensures) some named) is refl)
     c.put_bytes.ensures.value
 
 pub put_line-returns-then-includes-clause-parts : goal.put_line-returns-then-includes-clause-parts
-put_line-returns-then-includes-clause-parts g t c = λ behind is_line its.
-    let told = g.F.Files.holds c.args.files.now in
-    let more = c.put_include.new.out.bytes.items in
-    let closed = c.in_ok-close_part.ensures.parts told (c.args.line.now ++ behind) its in
-    let from : c.reading_at.result.start ≡ vec_len c.put_include.new.out.bytes = ap (λ (r : Reading). r.start) c.reading_at.ensures in
-    let start : c.reading_at.result.start ≡ length more = omega (arith, from) in
-    include_opens told c.args.name.now c.args.line.now behind c.args.out.now.bytes.items more c.args.out.now.parts.items c.put_include.new.out.parts.items c.args.reading c.reading_at.result is_line its (c.in_ok-put_include.ensures.parts closed) start (ap (λ (r : Reading). r.first) c.reading_at.ensures) (ap (λ (r : Reading). r.number) c.reading_at.ensures)
+put_line-returns-then-includes-clause-parts g t c = λ behind traced is_line its.
+    let name = c.args.name.now in
+    let line = c.args.line.now in
+    let reading = c.args.reading in
+    let more = c.put_include.new.out in
+    let closed = c.in_ok-close_part.ensures.parts (line ++ behind) traced its in
+    let put = c.in_ok-put_include.ensures.parts traced closed in
+    let from : c.reading_at.result.start ≡ vec_len more.bytes = ap (λ (r : Reading). r.start) c.reading_at.ensures in
+    let start : c.reading_at.result.start ≡ length more.bytes.items = omega (arith, from) in
+    let number : c.reading_at.result.number ≡ c.reading_at.result.first = ap (λ (r : Reading). r.number) c.reading_at.ensures ∙ sym (ap (λ (r : Reading). r.first) c.reading_at.ensures) in (
+      put.0,
+      λ held e. put.1 held e ∙ sym (included_line held name line c.args.left reading (sym c.includes.ensures ∙ c.if-includes.true)),
+      include_opens name behind (traced ++ put.0) more c.reading_at.result put.2 start number,
+    )
 
 pub put_line-returns-clause-parts : goal.put_line-returns-clause-parts
-put_line-returns-clause-parts g t c = λ behind is_line its.
-    let told = g.F.Files.holds c.args.files.now in
-    line_put told c.args.name.now c.args.line.now behind c.args.out.now.bytes.items c.put_bytes.new.out.items c.args.out.now.parts.items c.args.reading _ is_line its c.in_ok-put_bytes.ensures.value refl refl refl
+put_line-returns-clause-parts g t c = λ behind traced is_line its.
+    let name = c.args.name.now in
+    let line = c.args.line.now in
+    let reading = c.args.reading in (
+      in_line name reading.number line,
+      λ held e. sym (plain_line held name line c.args.left reading (sym c.includes.ensures ∙ c.if-includes.false)),
+      line_put name line behind traced c.args.out.now _ reading _ is_line its c.in_ok-put_bytes.ensures.value refl refl refl refl,
+    )
+
+pub put_file-returns-clause-parts : goal.put_file-returns-clause-parts
+put_file-returns-clause-parts g t c =
+    let none : length c.loop-rest.rest.now ≡ 0 = eqb-true (length c.loop-rest.rest.now) 0 (sym c.loop-rest-test.ensures) in
+    file_put (g.F.Files.holds c.args.files.now) c.args.name.now c.loop-rest.rest.now c.args.left c.args.out.now
+    c.loop-rest.out c.close_part.new.out c.loop-rest.reading none c.loop-rest.invariant.7 c.in_ok-close_part.ensures.parts
 
 pub put_file-returns-in_err-content-clause-begins : goal.put_file-returns-in_err-content-clause-begins
 put_file-returns-in_err-content-clause-begins g t c =

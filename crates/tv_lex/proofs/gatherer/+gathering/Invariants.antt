@@ -1,7 +1,7 @@
 use Rattle.std.proofs.Common.{◌≡◌, ◌+◌, ◌*◌, ◌≤◌, length, vec_len}
 use Rattle.tv_lex.specs.Gather.{longest_gathered}
-use Rattle.tv_lex.specs.Parts.{AreParts, IsOpen}
 use Rattle.tv_lex.proofs.Gathering.{Putting, Beginning}
+use Rattle.tv_lex.proofs.Parting.{Reads}
 use Rattle.tv_lex.proofs.gatherer.+gathering.Given as goal
 
 -- a file goes through its lines, a line to its include, and an include to a file that is one level deeper
@@ -24,8 +24,7 @@ invariant-put_file-loop-rest g l =
     × (f.steady l.fn.files → f.steady l.files × (f.faults l.files ≡ f.faults l.fn.files))
     × (vec_len l.out.bytes ≤ longest_gathered)
     × (l.reading.number + length l.rest ≤ longest_gathered + 1)
-    × (AreParts (f.holds l.fn.files) 0 l.fn.out.parts.items l.fn.out.bytes.items
-    → IsOpen (f.holds l.fn.files) l.name l.rest l.out.bytes.items l.out.parts.items l.reading)
+    × Reads (f.holds l.fn.files) l.name l.left l.fn.out l.rest l.out l.reading
 
 abbrev pub decreases-put_file-loop-rest : goal.decreases-put_file-loop-rest
 decreases-put_file-loop-rest g l = length l.rest

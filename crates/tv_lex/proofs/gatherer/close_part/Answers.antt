@@ -5,14 +5,15 @@ use Rattle.tv_lex.proofs.Parting.{closed_part, nothing_open}
 use Rattle.tv_lex.proofs.gatherer.close_part.Goals as goal
 
 pub returns-in_ok-push-clause-parts : goal.returns-in_ok-push-clause-parts
-returns-in_ok-push-clause-parts c = λ told rest its.
-    let text = c.args.out.now.bytes.items in
+returns-in_ok-push-clause-parts c = λ rest traced its.
     let part : Part = record { name = c.in_ok-name.name; line = c.args.reading.first; start = c.args.reading.start; end = c.len-end.result } in
-    let end : c.len-end.result ≡ length text = omega (arith, c.len-end.ensures) in
-    subst (λ ps. AreParts told 0 ps text) (sym c.in_ok-push.ensures.items)
-    (closed_part told c.args.name.now rest text c.args.out.now.parts.items c.args.reading part its c.in_ok-name.ensures.ok refl refl end c.if-reading-end.true)
+    let end : c.len-end.result ≡ length c.args.out.now.bytes.items = omega (arith, c.len-end.ensures) in (
+      its.bytes,
+      subst (λ ps. AreParts 0 ps traced) (sym c.in_ok-push.ensures.items)
+          (closed_part c.args.name.now rest traced c.args.out.now c.args.reading part its c.in_ok-name.ensures.ok refl refl end),
+    )
 
 pub returns-else-reading-end-clause-parts : goal.returns-else-reading-end-clause-parts
-returns-else-reading-end-clause-parts c = λ told rest its.
+returns-else-reading-end-clause-parts c = λ rest traced its.
     let some : length c.args.out.now.bytes.items ≤ c.args.reading.start = omega (arith, c.len-end.ensures, c.if-reading-end.false) in
-    nothing_open told c.args.name.now rest c.args.out.now.bytes.items c.args.out.now.parts.items c.args.reading its some
+    (its.bytes, nothing_open c.args.name.now rest traced c.args.out.now c.args.reading its some)

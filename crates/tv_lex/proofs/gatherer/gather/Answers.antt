@@ -1,8 +1,10 @@
-use Rattle.std.proofs.Common.{Ok, List, ℕ, subst, refl}
+use Rattle.std.proofs.Common.{Ok, List, [], ℕ, subst, refl, sym}
 use Rattle.std.proofs.lemmas.Result.{err_from_is_err_and}
 use Rattle.tv_lex.specs.Gather.{PutCause, Puts, file_events, deepest_include}
-use Rattle.tv_lex.specs.Parts.{AreParts}
 use Rattle.tv_lex.proofs.Gathering.{gather_cause, gathers_text}
+use Rattle.tv_lex.proofs.Parting.{first_file}
+use Rattle.tv_lex.specs.Parts.{IsMadeOf}
+use Rattle.tv_lex.specs.declared.gatherer.Gathered.{Gathered}
 use Rattle.tv_lex.proofs.gatherer.gather.Goals as goal
 
 pub returns-in_err-put_file-clause-cause : goal.returns-in_err-put_file-clause-cause
@@ -23,7 +25,6 @@ returns-clause-text g c =
 
 pub returns-clause-parts : goal.returns-clause-parts
 returns-clause-parts g c =
-    let told = g.F.Files.holds c.args.files.now in
-    let empty : AreParts told 0 c.new-2.result.items c.new.result.items =
-    rw (c.new.ensures.items, c.new-2.ensures.items) refl in
-    c.in_ok-put_file.ensures.parts empty
+    let old : Gathered = record { bytes = c.new.result; parts = c.new-2.result } in
+    let none : IsMadeOf [] old = (sym c.new.ensures.items, rw c.new-2.ensures.items refl) in
+    first_file (g.F.Files.holds c.args.files.now) c.args.name.now old c.put_file.new.out none c.in_ok-put_file.ensures.parts

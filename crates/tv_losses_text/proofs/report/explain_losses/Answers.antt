@@ -1,6 +1,6 @@
 use Rattle.std.proofs.Common.{ℕ, ◌<◌, ◌∙◌, All, List, ap, length, subst, sym}
 use Rattle.tv_model.specs.Program.{program_of}
-use Rattle.tv_struct.specs.StructureForm.{StructureForm}
+use Rattle.tv_structure_form.specs.StructureForm.{StructureForm}
 use Rattle.tv_losses_unmet.specs.Unmet.{AreFound}
 use Rattle.tv_losses_text.specs.Texts.{losses_text}
 use Rattle.tv_losses_text.proofs.Parts.{all-within, any-is}

@@ -1,5 +1,5 @@
 use Rattle.tv_model.specs.Form.{form_of}
-use Rattle.tv_quantifiers.proofs.FreeTests.{is_free-answer}
+use Rattle.tv_model.proofs.FreeTests.{is_free-answer}
 use Rattle.tv_quantifiers.proofs.chains.has.Goals as goal
 
 pub returns : goal.returns

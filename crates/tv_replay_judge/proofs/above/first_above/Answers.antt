@@ -1,7 +1,7 @@
 use Rattle.std.proofs.Common.{subst, arith}
 use Rattle.std.specs.Prelude.{IfNone}
 use Rattle.tv_embedding_laws.specs.Embedding.{IsEmbedded}
-use Rattle.tv_struct.specs.StructureForm.{structure_of}
+use Rattle.tv_structure_form.specs.StructureForm.{structure_of}
 use Rattle.tv_replay_judge.proofs.Places.{item-there, none-all, none-more}
 use Rattle.tv_replay_judge.proofs.above.first_above.Goals as goal
 

@@ -2,7 +2,7 @@ use Rattle.std.proofs.Common.{subst, arith}
 use Rattle.std.specs.Prelude.{IfNone}
 use Rattle.tv_embedding_laws.specs.Embedding.{IsEmbedded}
 use Rattle.tv_listing.specs.ListingForm.{at_node}
-use Rattle.tv_struct.specs.StructureForm.{structure_of}
+use Rattle.tv_structure_form.specs.StructureForm.{structure_of}
 use Rattle.tv_replay_judge.proofs.Places.{none-all, none-more}
 use Rattle.tv_replay_judge.proofs.above.first_listed.Goals as goal
 

@@ -1,4 +1,4 @@
-use Rattle.std.proofs.Common.{List, length, refl, sym, ap, subst, arith}
+use Rattle.std.proofs.Common.{◌∙◌, List, length, refl, sym, ap, subst, arith}
 use Rattle.tv_eval.specs.Bound.{bound_room}
 use Rattle.tv_model.specs.Program.{kind_of, program_of}
 use Rattle.tv_model.specs.declared.program.Pred.{Pred}
@@ -6,7 +6,6 @@ use Rattle.tv_replay_laws.specs.Judged.{IsAsDefined}
 use Rattle.tv_two_valued.specs.TwoValued.{heap_of}
 use Rattle.tv_replay_judge.specs.Same.{CanCompareKind}
 use Rattle.tv_replay_judge.proofs.Preds.{below-all, below-broken, below-more, can-compare, item-in}
-use Rattle.tv_replay_judge.proofs.Walked.{stays-on}
 use Rattle.tv_replay_judge.proofs.defined.first_of.Goals as goal
 
 pub is_as_defined-requires-clause-can : goal.is_as_defined-requires-clause-can
@@ -15,8 +14,8 @@ is_as_defined-requires-clause-can c =
     in let s = c.args.s.now
     in let at = item-in c.as_slice-pred-items.result.now preds c.loop-number.number c.pred-item.result c.as_slice-pred-items.ensures
     c.loop-number-test.true c.pred-item.is
-    in subst (λ room. CanCompareKind s room c.loop-number.number c.pred-item.result.arity (kind_of c.pred-item.result.kind))
-    (sym c.loop-number.invariant.0.room)
+    in subst (λ e. CanCompareKind s (bound_room e) c.loop-number.number c.pred-item.result.arity (kind_of c.pred-item.result.kind))
+    (sym c.loop-number.invariant.0)
     (can-compare (program_of c.args.program.now) s (bound_room c.args.evaluator.now) c.requires.ready preds refl c.loop-number.number
     c.pred-item.result at.0 at.1)
 
@@ -34,8 +33,7 @@ loop-number-preserved c =
     in let at = item-in c.as_slice-pred-items.result.now preds c.loop-number.number c.pred-item.result c.as_slice-pred-items.ensures
     c.loop-number-test.true c.pred-item.is
     in (
-      stays-on c.args.s.now c.args.evaluator.now c.loop-number.evaluator c.is_as_defined.new.evaluator c.loop-number.invariant.0
-          c.is_as_defined.ensures.stays,
+      c.is_as_defined.ensures.kept ∙ c.loop-number.invariant.0,
       below-more preds (IsAsDefined (heap_of c.args.s.now)) c.loop-number.number c.pred-item.result at.0 at.1 c.loop-number.invariant.1
           (c.if-not-is_as_defined.ensures.same.0 refl),
     )

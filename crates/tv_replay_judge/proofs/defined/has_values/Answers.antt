@@ -6,7 +6,7 @@ use Rattle.tv_model.specs.Form.{form_of, vars_of, FExists}
 use Rattle.tv_model.specs.Rules.{blank}
 use Rattle.tv_model.specs.Valid.{IsOver}
 use Rattle.tv_model.specs.declared.formula.Terms.{Terms}
-use Rattle.tv_struct.specs.StructureForm.{structure_of}
+use Rattle.tv_structure_form.specs.StructureForm.{structure_of}
 use Rattle.tv_eval_laws.specs.Value.{value}
 use Rattle.tv_replay_judge.specs.Same.{HasValuesOf}
 use Rattle.tv_replay_judge.proofs.Compared.{none-assigned, none-blank, one-assigned, values-nullary}

@@ -4,7 +4,7 @@ use Rattle.tv_eval.specs.AssignmentForm.{assignment_of}
 use Rattle.tv_model.specs.Form.{form_of}
 use Rattle.tv_model.specs.Program.{rule_of}
 use Rattle.tv_model.specs.Valid.{IsFormulaOver}
-use Rattle.tv_struct.specs.StructureForm.{arities_of}
+use Rattle.tv_structure_form.specs.StructureForm.{arities_of}
 use Rattle.tv_two_valued.specs.TwoValued.{heap_of}
 use Rattle.tv_replay_judge.specs.Trying.{IsFreeIn, IsMetFrom, IsCheckStart, ImplicationForm}
 use Rattle.tv_replay_judge.specs.Trying.{tried_rule}

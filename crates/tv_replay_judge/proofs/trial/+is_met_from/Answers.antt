@@ -1,16 +1,17 @@
-use Rattle.std.proofs.Common.{◌≡◌, ◌<◌, ◌≤◌, ◌-◌, ◌↔◌, ◌∷◌, [], IsTrue, true, false, length, take, drop}
+use Rattle.std.proofs.Common.{◌≡◌, ◌∙◌, ◌<◌, ◌≤◌, ◌-◌, ◌↔◌, ◌∷◌, [], IsTrue, true, false, length, take, drop}
 use Rattle.std.proofs.Common.{get_or, refl, sym, ap, subst, arith}
 use Rattle.std.specs.Prelude.{All}
 use Rattle.std.proofs.lemmas.List.Elements.{All-head}
 use Rattle.tv_coerce_members.specs.Members.{numbers_of}
 use Rattle.tv_eval.specs.AssignmentForm.{assignment_of}
+use Rattle.tv_eval.specs.Bound.{bound_room, bound_structure}
 use Rattle.tv_model.specs.declared.formula.Var.{Var}
 use Rattle.tv_model.specs.Truth.{put}
 use Rattle.tv_two_valued.specs.TwoValued.{heap_of}
 use Rattle.tv_replay_judge.specs.Trying.{CanTry, IsFreeIn, IsMetFrom, IsCheckStart}
 use Rattle.tv_replay_judge.specs.Trying.{implication_of}
 use Rattle.tv_replay_judge.proofs.Passed.{walked-all, walked-more}
-use Rattle.tv_replay_judge.proofs.Walked.{met-at_end, none-at, split-vars, stays-on, tail-shorter, tried-all}
+use Rattle.tv_replay_judge.proofs.Walked.{met-at_end, none-at, split-vars, tail-shorter, tried-all}
 use Rattle.tv_replay_judge.proofs.Walked.{tried-broken, variable-in_range, walk-on}
 use Rattle.tv_replay_judge.proofs.trial.+is_met_from.Goals as goal
 
@@ -52,14 +53,11 @@ is_met_from-requires m c =
     in (
       falls,
       (
-        stays.bound,
+        subst (λ e. bound_structure e ≡ s) (sym stays) c.requires.structure,
         (
-          stays.structure,
-          (
-            subst (λ room. CanTry s room t) (sym stays.room) c.requires.ready,
-            walk-on s.size v c.in-Some.u tail t c.args.a.now c.with.result
-                (subst (λ vs. IsCheckStart s.size t vs c.args.a.now) split c.requires.walk) within c.with.ensures.places,
-          ),
+          subst (λ e. CanTry s (bound_room e) t) (sym stays) c.requires.ready,
+          walk-on s.size v c.in-Some.u tail t c.args.a.now c.with.result
+              (subst (λ vs. IsCheckStart s.size t vs c.args.a.now) split c.requires.walk) within c.with.ensures.places,
         ),
       ),
     )
@@ -88,7 +86,7 @@ loop-u-preserved m c =
     in let tail = numbers_of (take (length rest - 1) (drop 1 rest))
     in let within : c.in-Some.u < s.size = omega (arith, c.in-Some.ensures.1, c.places_for-places.ensures.row.size)
     in (
-      stays-on s c.args.evaluator.now c.loop-u.evaluator c.is_met_from.new.evaluator c.loop-u.invariant.0 c.is_met_from.ensures.stays,
+      c.is_met_from.ensures.same ∙ c.loop-u.invariant.0,
       omega (arith, within),
       walked-more s.size (λ k. IsMetFrom (heap_of s) t tail (put (assignment_of c.args.a.now) v k)) c.places_for-places.result c.loop-u.from
           c.in-Some.u c.places_for-places.ensures.row within c.loop-u.invariant.2 c.in-Some.ensures.3

@@ -15,17 +15,20 @@ pub row-requires-clause-assigned : goal.row-requires-clause-assigned
 row-requires-clause-assigned c =
     let s = c.args.s.now
     in let f = form_of c.args.f.now
-    in subst (λ t. AreAssigned t.size c.args.a.now (FExists c.args.v.0 f)) (sym c.requires.structure)
-    (row-assigned s (bound_room c.args.evaluator.now) c.args.a.now c.args.v.0 (numbers_of c.args.rest.now) f c.requires.can c.requires.placed
+    in subst (λ t. AreAssigned t.size c.args.turn.now.a.now (FExists c.args.turn.now.v.0 f)) (sym c.requires.structure)
+    (row-assigned s (bound_room c.args.evaluator.now) c.args.turn.now.a.now c.args.turn.now.v.0 (numbers_of
+    c.args.turn.now.rest.now) f c.requires.can c.requires.placed
     (c.is_last.ensures c.if-is_last.true))
 
 pub returns-then-is_last-clause-row : goal.returns-then-is_last-clause-row
 returns-then-is_last-clause-row c =
     let s = c.args.s.now
     in let f = form_of c.args.f.now
-    in let a = assignment_of c.args.a.now
-    in let rest = numbers_of c.args.rest.now
-    in let read : c.row.result ≡ values_along s a c.args.v.0 f = c.row.ensures.exact ∙ ap (λ t. values_along t a c.args.v.0 f) c.requires.structure
-    in subst (IsRowOf s.size (λ u. IsRuledOut (heap_of s) rest (put a c.args.v.0 u) f)) (sym read)
-    (row-out s (bound_room c.args.evaluator.now) c.args.a.now c.args.v.0 rest f c.requires.can c.requires.placed
+    in let a = assignment_of c.args.turn.now.a.now
+    in let rest = numbers_of c.args.turn.now.rest.now
+    in let read : c.row.result ≡ values_along s a c.args.turn.now.v.0 f = c.row.ensures.exact ∙ ap (λ t.
+    values_along t a c.args.turn.now.v.0 f) c.requires.structure
+    in subst (IsRowOf s.size (λ u. IsRuledOut (heap_of s) rest (put a c.args.turn.now.v.0 u) f)) (sym read)
+    (row-out s (bound_room c.args.evaluator.now) c.args.turn.now.a.now c.args.turn.now.v.0 rest f c.requires.can
+    c.requires.placed
     (c.is_last.ensures c.if-is_last.true))

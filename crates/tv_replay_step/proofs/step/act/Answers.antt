@@ -4,7 +4,7 @@ use Rattle.std.specs.List.{AllByRecursion}
 use Rattle.std.proofs.lemmas.Bool.{false≢true}
 use Rattle.tv_model.specs.Program.{update_of}
 use Rattle.tv_model.specs.declared.program.Update.{Update}
-use Rattle.tv_struct.specs.StructureForm.{arities_of}
+use Rattle.tv_structure_form.specs.StructureForm.{arities_of}
 use Rattle.tv_replay_step.specs.Free.{CanCopy, GivesAll, IsFinished, IsFree}
 use Rattle.tv_replay_step.specs.Turns.{program_in}
 use Rattle.tv_replay_step.proofs.Turning.{acts, can-copy, no-values-here, updated-here, values-known}

@@ -2,7 +2,7 @@ use Rattle.std.proofs.Common.{◌∙◌, ◌≡◌, ◌<◌, ◌++◌, ◌∷◌
 use Rattle.std.specs.Prelude.{All, IfSome}
 use Rattle.std.proofs.lemmas.List.{length-set}
 use Rattle.tv_listing.specs.ListingForm.{at_node}
-use Rattle.tv_struct.specs.StructureForm.{IsStructure, IsOver}
+use Rattle.tv_structure_form.specs.StructureForm.{IsStructure, IsOver}
 use Rattle.tv_tvs.specs.Targets.{IsRead}
 use Rattle.tv_report.proofs.Fronts.{read_more}
 use Rattle.tv_report.proofs.matching.list_structures.Goals as goal

@@ -25,19 +25,19 @@ invariant_of-result c = (
       c.in_ok-shapes.ensures c.in_ok-entries.ensures c.in_ok-by_pred.ensures.lists
       (below-count (rules_of c.args.bases) c.in_ok-by_pred.by_pred c.args.preds c.in_ok-by_pred.ensures.count c.requires.preds)
       c.in_ok-by_sm.ensures,
-  are-moved_by c.args.bases c.in_ok-movers.movers c.in_ok-families.families c.in_ok-entries.entries c.as_slice-7.result.now
+  are-moved_by c.args.bases c.in_ok-occurrences.occurrences c.in_ok-families.families c.in_ok-entries.entries c.as_slice-7.result.now
       c.as_slice-9.result.now c.as_slice-7.ensures c.as_slice-9.ensures
       (subst (λ (rs : List Rule). map entry_of c.in_ok-entries.entries ≡ closed_entries (map rule_of rs)) c.as_slice-2.ensures c.in_ok-entries.ensures)
-      c.in_ok-movers.ensures c.in_ok-families.ensures,
+      c.in_ok-occurrences.ensures c.in_ok-families.ensures,
 )
 
-pub movers_of-requires-clause-entries : goal.movers_of-requires-clause-entries
-movers_of-requires-clause-entries c =
+pub occurrences_of-requires-clause-entries : goal.occurrences_of-requires-clause-entries
+occurrences_of-requires-clause-entries c =
     ap (λ (es : List Entry). map entry_of es) c.as_slice-8.ensures ∙ c.in_ok-entries.ensures
     ∙ ap (λ (rs : List Rule). closed_entries (map rule_of rs)) (c.as_slice-2.ensures ∙ sym c.as_slice-7.ensures)
 
-pub movers_of-requires-clause-preds : goal.movers_of-requires-clause-preds
-movers_of-requires-clause-preds c =
+pub occurrences_of-requires-clause-preds : goal.occurrences_of-requires-clause-preds
+occurrences_of-requires-clause-preds c =
     subst (λ (rs : List Rule). (q n : ℕ) (rule : RuleForm) → slice_get (rules_of rs) n ≡ Some rule → StandsIn q rule → q < c.args.preds)
     (sym c.as_slice-7.ensures) c.requires.preds
 

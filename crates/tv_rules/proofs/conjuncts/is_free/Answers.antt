@@ -1,5 +1,5 @@
 use Rattle.tv_model.specs.Form.{form_of}
-use Rattle.tv_rules.proofs.RuleTests.{is_free-answer}
+use Rattle.tv_model.proofs.FreeTests.{is_free-answer}
 use Rattle.tv_rules.proofs.conjuncts.is_free.Goals as goal
 
 pub returns : goal.returns

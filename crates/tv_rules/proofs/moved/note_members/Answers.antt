@@ -14,6 +14,6 @@ returns-clause-noted c =
     let list = c.as_slice.result.now
     in on-ok c.note_moves.result
     (λ last. rule-noted (length list) c.args.number (rule_of c.args.rule.now) (forms_of list) (form_of c.in_ok-negation.negation)
-    c.args.movers.now c.note_conjuncts.new.movers c.note_moves.new.self
+    c.args.occurrences.now c.note_conjuncts.new.occurrences c.note_moves.new.self
     (omega (arith, length-map list (λ (f : Bor Formula). form_of f.now))) (ap forms_of c.as_slice.ensures.value ∙ c.in_ok-list.ensures)
     c.in_ok-negation.ensures c.in_ok-note_conjuncts.ensures last) c.note_moves.ensures

@@ -9,8 +9,8 @@ pub loop-number-preserved : goal.loop-number-preserved
 loop-number-preserved c =
     let k = c.loop-number.number
     in (
-      keeps-both c.args.movers.now c.loop-number.movers c.note_members.new.movers c.loop-number.invariant.0 c.in_ok-note_members.ensures.kept,
-      rules-next k (map rule_of c.args.rules.now) (rule_of c.index-rules-number.result) c.loop-number.movers c.note_members.new.movers
+      keeps-both c.args.occurrences.now c.loop-number.occurrences c.note_members.new.occurrences c.loop-number.invariant.0 c.in_ok-note_members.ensures.kept,
+      rules-next k (map rule_of c.args.rules.now) (rule_of c.index-rules-number.result) c.loop-number.occurrences c.note_members.new.occurrences
           (mapped-at rule_of c.args.rules.now k c.index-rules-number.result c.loop-number-test.true c.index-rules-number.is)
           c.loop-number.invariant.1 c.in_ok-note_members.ensures.kept c.in_ok-note_members.ensures.noted,
     )

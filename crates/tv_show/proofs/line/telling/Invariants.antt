@@ -1,6 +1,6 @@
 use Rattle.std.proofs.Common.{◌≡◌, drop}
-use Rattle.tv_show.specs.Line.{telling}
+use Rattle.tv_show.specs.Named.{named}
 use Rattle.tv_show.proofs.line.telling.Given as goal
 
 abbrev pub invariant-loop-p : goal.invariant-loop-p
-invariant-loop-p l = telling l.s l.u l.p (drop l.p l.preds) ≡ telling l.s l.u 0 l.preds
+invariant-loop-p l = named l.u (drop l.p l.preds) (drop l.p l.told) ≡ named l.u l.preds l.told

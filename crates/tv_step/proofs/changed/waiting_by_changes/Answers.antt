@@ -3,7 +3,7 @@ use Rattle.std.specs.List.{range_with_len}
 use Rattle.std.proofs.lemmas.Result.{IfOk-weaker}
 use Rattle.tv_rules.specs.EntryForms.{rules_of}
 use Rattle.tv_coerce.specs.RuleSets.{IsStableBut}
-use Rattle.tv_struct.specs.StructureForm.{arities_of}
+use Rattle.tv_structure_form.specs.StructureForm.{arities_of}
 use Rattle.tv_coerce_sets.specs.Unmet.{WaitsAmong}
 use Rattle.tv_step.specs.Changed.{DiffersWithin, IsFew}
 use Rattle.tv_step.specs.Setting.{form_in}

@@ -2,7 +2,7 @@ use Rattle.std.proofs.Common.{◌≡◌, arith, length, subst}
 use Rattle.std.specs.List.{range_with_len}
 use Rattle.tv_eval_laws.proofs.Rounds.{range-push}
 use Rattle.tv_rules.specs.EntryForms.{rules_of}
-use Rattle.tv_struct.specs.StructureForm.{arities_of}
+use Rattle.tv_structure_form.specs.StructureForm.{arities_of}
 use Rattle.tv_coerce_sets.specs.Unmet.{WaitsAmong}
 use Rattle.tv_coerce_sets.proofs.Awaiting.{none-among}
 use Rattle.tv_step.proofs.changed.waiting_in_all.Goals as goal

@@ -2,7 +2,7 @@ use Rattle.std.proofs.Common.{[], ◌∷◌, sym, subst}
 use Rattle.std.proofs.lemmas.List.{take_all}
 use Rattle.std.proofs.lemmas.List.Elements.{All-contains}
 use Rattle.tv_model.specs.Form.{form_of}
-use Rattle.tv_struct.specs.StructureForm.{arities_of}
+use Rattle.tv_structure_form.specs.StructureForm.{arities_of}
 use Rattle.tv_focus_laws.specs.Tables.{AreStage}
 use Rattle.tv_focus.specs.Anchored.{AreAtomsOver}
 use Rattle.tv_focus.specs.Stage.{IsWithinLimits}

@@ -7,7 +7,7 @@ use Rattle.tv_step.specs.Job.{action_in}
 use Rattle.tv_step.specs.Setting.{form_in}
 use Rattle.tv_step.specs.Steps.{AreFocusedWithin, IsCauseOfStep}
 use Rattle.tv_model.specs.Program.{ProgramForm}
-use Rattle.tv_struct.specs.StructureForm.{StructureForm}
+use Rattle.tv_structure_form.specs.StructureForm.{StructureForm}
 use Rattle.tv_step_laws.specs.Transfer.{focus_places, message_value}
 use Rattle.tv_step.proofs.Stepping.{action-messages, action-room, given-unmarked, results-of}
 use Rattle.tv_step.proofs.Stepping.{within-shaped, within-stable}

@@ -3,7 +3,7 @@ use Rattle.std.proofs.Common.{ap, sym, arith}
 use Rattle.std.proofs.lemmas.List.{length-map, get_or-map, get_or_read, take_more}
 use Rattle.tv_model.specs.declared.program.Pred.{Pred}
 use Rattle.tv_struct.specs.LayoutForm.{starts_from, end_from}
-use Rattle.tv_struct.specs.TableForm.{row_count}
+use Rattle.tv_structure_form.specs.TableForm.{row_count}
 use Rattle.tv_struct.proofs.HeldLaws.{end_fits, end_more, starts_more}
 use Rattle.tv_struct.proofs.layout.laid.Goals as goal
 

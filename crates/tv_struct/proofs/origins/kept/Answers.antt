@@ -1,5 +1,5 @@
 use Rattle.std.proofs.lemmas.List.{take_all}
-use Rattle.tv_struct.proofs.OriginLaws.{kept_count}
+use Rattle.tv_structure_form.proofs.OriginLaws.{kept_count}
 use Rattle.tv_struct.proofs.origins.kept.Goals as goal
 
 pub returns-clause-count : goal.returns-clause-count

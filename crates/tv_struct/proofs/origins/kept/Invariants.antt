@@ -1,5 +1,5 @@
 use Rattle.std.proofs.Common.{◌≡◌, take}
-use Rattle.tv_struct.specs.StructureForm.{kept_from}
+use Rattle.tv_structure_form.specs.StructureForm.{kept_from}
 use Rattle.tv_struct.proofs.origins.kept.Given as goal
 
 abbrev pub invariant-loop-u : goal.invariant-loop-u

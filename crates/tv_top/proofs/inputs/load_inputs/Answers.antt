@@ -1,7 +1,7 @@
 use Rattle.std.proofs.Common.{◌≡◌, ◌+◌, List, refl}
 use Rattle.std.proofs.lemmas.Result.{err_from_is_err_and}
 use Rattle.tv_model.specs.declared.program.Program.{Program}
-use Rattle.tv_struct.specs.StructureForm.{StructureForm}
+use Rattle.tv_structure_form.specs.StructureForm.{StructureForm}
 use Rattle.tv_lex.proofs.Begins.{one_more}
 use Rattle.tv_texts.proofs.Loading.{rose_later, still}
 use Rattle.tv_top.proofs.Begins.{initial_begun, program_begun}

@@ -4,7 +4,7 @@ use Rattle.tv_lemmas.proofs.Options.{OnOk-any}
 use Rattle.tv_listing.specs.declared.analysis.Analysis.{Analysis}
 use Rattle.tv_model.specs.declared.program.Mode.TheVariants.{Given}
 use Rattle.tv_status.specs.declared.status.Role.TheVariants as role
-use Rattle.tv_struct.specs.StructureForm.{StructureForm}
+use Rattle.tv_structure_form.specs.StructureForm.{StructureForm}
 use Rattle.tv_texts.proofs.Loading.{rose_later, still}
 use Rattle.tv_top.proofs.Begins.{another, later_begun, replayed_begun}
 use Rattle.tv_top.proofs.Causes.{holds_unless, unless_not_read, later_fault, run_answers}

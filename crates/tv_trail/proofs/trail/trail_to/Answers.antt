@@ -2,13 +2,13 @@ use Rattle.std.proofs.Common.{◌≡◌, ◌∷◌, ◌++◌, ◌∙◌, [], Lis
 use Rattle.std.specs.Prelude.{All, slice_get}
 use Rattle.std.proofs.lemmas.List.Elements.{All-push}
 use Rattle.std.proofs.lemmas.List.Sorted.{All-permutation}
-use Rattle.tv_struct.specs.StructureForm.{StructureForm, IsStructure, IsOver}
+use Rattle.tv_structure_form.specs.StructureForm.{StructureForm, IsStructure, IsOver}
 use Rattle.tv_work.specs.Reach.{Point}
 use Rattle.tv_trail_laws.specs.declared.trail.Link.{Link}
 use Rattle.tv_trail_laws.specs.declared.trail.Origin.{Origin}
 use Rattle.tv_trail_laws.specs.Met.{IsTrailFrom}
 use Rattle.tv_trail_laws.proofs.Walking.{ComesFrom, comes-next, comes-trail, goes-back}
-use Rattle.tv_trail.specs.Asked.{task_of}
+use Rattle.tv_work.specs.Task.{task_of}
 use Rattle.tv_trail.proofs.Kept.{are-traced, at-settled}
 use Rattle.tv_trail.proofs.Walking.{settled-over}
 use Rattle.tv_trail.proofs.trail.trail_to.Goals as goal

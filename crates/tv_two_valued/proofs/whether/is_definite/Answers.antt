@@ -1,7 +1,7 @@
 use Rattle.std.proofs.Common.{◌≡◌, ◌↔◌, ◌∙◌, IsTrue, [], ap, subst}
 use Rattle.std.specs.Prelude.{Any, Some}
 use Rattle.tv_kleene.specs.declared.K3.TheVariants.{Half}
-use Rattle.tv_struct.specs.StructureForm.{value_at}
+use Rattle.tv_structure_form.specs.StructureForm.{value_at}
 use Rattle.tv_struct.specs.StructureRows.{unary_row}
 use Rattle.tv_two_valued.proofs.Definite.{IsDefinite, nullary-definite, unary-definite, turned}
 use Rattle.tv_two_valued.proofs.whether.is_definite.Goals as goal

@@ -1,8 +1,8 @@
 use Rattle.std.proofs.Common.{sym, subst, ◌≤◌}
 use Rattle.std.proofs.lemmas.Result.{IfErr-weaker}
 use Rattle.tv_model.specs.Program.{program_of, action_of}
-use Rattle.tv_struct.specs.Halves.{row_halves}
-use Rattle.tv_struct.specs.StructureForm.{StructureForm}
+use Rattle.tv_structure_form.specs.Halves.{row_halves}
+use Rattle.tv_structure_form.specs.StructureForm.{StructureForm}
 use Rattle.tv_eval.specs.AssignmentForm.{assignment_of}
 use Rattle.tv_update.specs.Update.{IsGivenOf, IsAnswer, IsUpdateCause}
 use Rattle.tv_update.specs.Updated.{CanApply, IsPrepareCause, keep_values}

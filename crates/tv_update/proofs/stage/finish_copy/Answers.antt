@@ -2,7 +2,7 @@ use Rattle.std.proofs.Common.{true, [], ◌∷◌, List, ap, map, replicate, sym
 use Rattle.std.proofs.lemmas.Result.{on_ok_weaker}
 use Rattle.tv_model.specs.declared.formula.PredId.{PredId}
 use Rattle.tv_model.specs.Program.{program_of, action_of}
-use Rattle.tv_struct.specs.StructureForm.{StructureForm}
+use Rattle.tv_structure_form.specs.StructureForm.{StructureForm}
 use Rattle.tv_eval.specs.AssignmentForm.{assignment_of}
 use Rattle.tv_update.specs.New.{CanFinish, AreFinished}
 use Rattle.tv_update.proofs.Finishes.{can_finish, can_finish_unmarked}

@@ -2,7 +2,7 @@ use Rattle.std.proofs.Common.{◌≡◌, All, map, subst, sym}
 use Rattle.std.proofs.lemmas.Result.{IfOk-weaker}
 use Rattle.std.specs.Result.{IfOk, IfErr}
 use Rattle.tv_model.specs.Program.{ActionForm, program_of, action_of}
-use Rattle.tv_struct.specs.StructureForm.{structure_of}
+use Rattle.tv_structure_form.specs.StructureForm.{structure_of}
 use Rattle.tv_eval.specs.AssignmentForm.{assignment_of}
 use Rattle.tv_update_laws.specs.Choices.{AreGiven}
 use Rattle.tv_update_laws.specs.Tables.{IsGivenOver}

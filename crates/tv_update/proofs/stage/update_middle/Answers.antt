@@ -1,7 +1,7 @@
 use Rattle.std.proofs.Common.{◌≡◌, ◌≤◌, length, subst, sym}
 use Rattle.std.specs.Prelude.{IfOk, IfErr, OnOk}
 use Rattle.tv_model.specs.Program.{ActionForm, program_of, action_of}
-use Rattle.tv_struct.specs.Halves.{row_halves}
+use Rattle.tv_structure_form.specs.Halves.{row_halves}
 use Rattle.tv_eval.specs.AssignmentForm.{assignment_of}
 use Rattle.tv_update.specs.Plan.{IsPlanFor}
 use Rattle.tv_update.specs.Update.{action_at, IsGivenOf}

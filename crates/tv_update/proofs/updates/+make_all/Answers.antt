@@ -1,4 +1,4 @@
-use Rattle.std.proofs.Common.{◌∙◌, Some, None}
+use Rattle.std.proofs.Common.{◌∙◌, Some, None, ap}
 use Rattle.std.proofs.lemmas.Bool.{cond-true}
 use Rattle.std.proofs.lemmas.Result.{on_ok_weaker}
 use Rattle.tv_model.specs.Program.{program_of, update_of}
@@ -18,5 +18,6 @@ returns-then-counts-clause-made t c =
     c.in-len1-up.len_at_least c.w-item.is
     (c.counts.ensures (update_of c.w-item.result)
     ∙ cond-true c.counts.result (Some (update_of c.w-item.result)) None c.if-counts.true)
-    c.requires.can c.requires.like c.in_ok-make_all-in-len1-up.ensures.made c.make_all.ensures.structure)
+    c.requires.can c.requires.like c.in_ok-make_all-in-len1-up.ensures.made (ap bound_structure
+    c.make_all.ensures.same))
     c.make.ensures.made

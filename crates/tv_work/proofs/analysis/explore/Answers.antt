@@ -1,6 +1,6 @@
 use Rattle.std.proofs.Common.{ℕ, ◌∙◌, [], ap, replicate, subst, sym, List}
 use Rattle.tv_listing.specs.ListingForm.{at_node}
-use Rattle.tv_struct.specs.StructureForm.{StructureForm}
+use Rattle.tv_structure_form.specs.StructureForm.{StructureForm}
 use Rattle.tv_work.specs.Explored.{IsSearchState, IsExplored}
 use Rattle.tv_work.specs.Search.{SearchForm, Grows, IsOnce}
 use Rattle.tv_work.specs.Task.{task_of}

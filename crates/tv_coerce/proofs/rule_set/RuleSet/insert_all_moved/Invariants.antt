@@ -6,4 +6,4 @@ use Rattle.tv_coerce.proofs.rule_set.RuleSet.insert_all_moved.Given as goal
 
 abbrev pub invariant-loop-number : goal.invariant-loop-number
 invariant-loop-number l =
-    HasAtLeast (AreOf (Contains (take l.number-index l.numbers)) (IsMoved l.closed l.mover)) l.initial.self l.self
+    HasAtLeast (AreOf (Contains (take l.number-index l.numbers)) (IsMoved l.closed l.occurrence)) l.initial.self l.self

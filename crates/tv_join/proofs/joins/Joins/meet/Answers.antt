@@ -1,5 +1,5 @@
 use Rattle.std.proofs.Common.{◌≡◌, ◌∙◌, List, ap, length, subst}
-use Rattle.tv_struct.specs.StructureForm.{StructureForm}
+use Rattle.tv_structure_form.specs.StructureForm.{StructureForm}
 use Rattle.tv_join.specs.State.{NotesPut, members_at, room_after}
 use Rattle.tv_join.specs.declared.places.Place.{Place}
 use Rattle.tv_join.proofs.joins.Joins.meet.Goals as goal

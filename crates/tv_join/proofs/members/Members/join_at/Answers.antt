@@ -1,7 +1,7 @@
 use Rattle.std.proofs.Common.{ℕ, ◌≡◌, ◌∙◌, List, MatchBool, length, get_or, set, Some, ap, sym, subst, arith}
 use Rattle.std.specs.Prelude.{slice_get}
 use Rattle.std.proofs.lemmas.Option.{slice_get_within, get_or_from_slice_get}
-use Rattle.tv_struct.specs.StructureForm.{StructureForm, arities_of, unmarked}
+use Rattle.tv_structure_form.specs.StructureForm.{StructureForm, arities_of, unmarked}
 use Rattle.tv_join.specs.Keyed.{SameKey}
 use Rattle.tv_join.specs.Members.{MembersForm, place_in}
 use Rattle.tv_join.proofs.Indexing.{put-known, put-raised, put-indexed}

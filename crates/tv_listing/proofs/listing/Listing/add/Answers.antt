@@ -1,6 +1,6 @@
 use Rattle.std.proofs.Common.{◌<◌, List, [], length, refl, subst, sym}
 use Rattle.std.proofs.lemmas.List.{get_or_read_under}
-use Rattle.tv_struct.specs.StructureForm.{StructureForm}
+use Rattle.tv_structure_form.specs.StructureForm.{StructureForm}
 use Rattle.tv_listing.proofs.ListingLaws.{AddsAt-from_list}
 use Rattle.tv_listing.proofs.listing.Listing.add.Goals as goal
 

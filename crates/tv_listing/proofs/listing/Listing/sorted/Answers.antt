@@ -1,6 +1,6 @@
 use Rattle.std.proofs.Common.{◌<◌, ◌∙◌, [], List, length, ap, subst, arith}
 use Rattle.std.proofs.lemmas.List.{get_or_read}
-use Rattle.tv_struct.specs.StructureForm.{StructureForm}
+use Rattle.tv_structure_form.specs.StructureForm.{StructureForm}
 use Rattle.tv_listing.specs.ListingForm.{IsSortedFrom}
 use Rattle.tv_listing.proofs.ListingLaws.{sorted_many, sorted_each, sorted_others}
 use Rattle.tv_listing.proofs.listing.Listing.sorted.Goals as goal

@@ -15,5 +15,5 @@ returns c = λ n.
     in let is : c.numbers_at.result.now ≡ get_or s.families b []
     = c.numbers_at.ensures ∙ ap (λ (lists : List (List ℕ)). unwrap_or (slice_get lists b) []) c.as_slice-2.ensures
     ∙ unwrap_or-slice_get s.families b []
-    in kin-are s.bases s.movers s.families c.self.invariant.1 _ c.self.view_is c.args.number s.entries c.self.invariant.0.kept
+    in kin-are s.bases s.occurrences s.families c.self.invariant.1 _ c.self.view_is c.args.number s.entries c.self.invariant.0.kept
     c.item_at-entry.result.now (read-at _ _ _ _ c.as_slice.ensures c.item_at-entry.ensures) c.numbers_at.result.now is n

@@ -2,7 +2,7 @@ use Rattle.std.proofs.Common.{◌∙◌, Bool, List, false, ap, sym, subst, leng
 use Rattle.std.proofs.lemmas.List.{length-map}
 use Rattle.tv_kleene.specs.declared.K3.TheVariants.{No}
 use Rattle.tv_row.specs.Bits.{is_possible}
-use Rattle.tv_struct.specs.TableForm.{selected}
+use Rattle.tv_structure_form.specs.TableForm.{selected}
 use Rattle.tv_struct.specs.StructureRows.{flags_of}
 use Rattle.tv_struct.proofs.FlagLaws.{IsFlagRow, IsFlagRow-selected, flags_selected, never_yes}
 use Rattle.tv_struct.proofs.flags.Summaries.drawn.Goals as goal

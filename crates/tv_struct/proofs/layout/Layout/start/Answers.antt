@@ -1,6 +1,6 @@
 use Rattle.std.proofs.Common.{◌<◌, ◌*◌, ◌∙◌, length, get_or, ap, subst, sym, arith}
 use Rattle.tv_struct.specs.LayoutForm.{LayoutForm, words_for, row_place}
-use Rattle.tv_struct.specs.TableForm.{row_count}
+use Rattle.tv_structure_form.specs.TableForm.{row_count}
 use Rattle.tv_struct.specs.declared.layout.RowOffsets.{RowOffsets}
 use Rattle.tv_struct.proofs.LayoutLaws.{singles_many, single_before, start_placed}
 use Rattle.tv_struct.proofs.layout.Layout.start.Goals as goal

@@ -1,7 +1,7 @@
 use Rattle.std.proofs.Common.{◌≡◌, ◌<◌, ◌+◌, ◌*◌, ◌∙◌, ap, arith}
 use Rattle.tv_row.specs.Places.{value_in}
 use Rattle.tv_struct.specs.LayoutForm.{words_for}
-use Rattle.tv_struct.specs.TableForm.{TableForm}
+use Rattle.tv_structure_form.specs.TableForm.{TableForm}
 use Rattle.tv_struct.proofs.HeldLaws.{now_listed, now_row, now_line, now_column_part}
 use Rattle.tv_struct.proofs.planes.Planes.column_word.Goals as goal
 

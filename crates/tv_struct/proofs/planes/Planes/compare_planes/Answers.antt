@@ -1,7 +1,7 @@
 use Rattle.std.proofs.Common.{◌≡◌, ◌∙◌, length, min, sym, ap, arith}
 use Rattle.std.specs.Ordering.{nat_cmp}
 use Rattle.std.proofs.lemmas.List.{length-map}
-use Rattle.tv_struct.specs.TableForm.{PlaneForm}
+use Rattle.tv_structure_form.specs.TableForm.{PlaneForm}
 use Rattle.tv_struct.proofs.OrderLaws.{planes_cmp-rest}
 use Rattle.tv_struct.proofs.planes.Planes.compare_planes.Goals as goal
 

@@ -1,7 +1,7 @@
 use Rattle.std.proofs.Common.{◌≡◌, drop}
 use Rattle.std.specs.Cmp.Lexicographic.{slice_cmp}
 use Rattle.tv_row.specs.Bits.{value_cmp}
-use Rattle.tv_struct.specs.TableForm.{plane_at}
+use Rattle.tv_structure_form.specs.TableForm.{plane_at}
 use Rattle.tv_struct.proofs.planes.Planes.compare_rows.Given as goal
 
 abbrev pub invariant-loop-row : goal.invariant-loop-row

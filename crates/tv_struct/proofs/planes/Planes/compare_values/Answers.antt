@@ -1,7 +1,7 @@
 use Rattle.std.proofs.Common.{◌*◌, ◌∙◌, refl, ap, subst, sym}
 use Rattle.tv_struct.specs.LayoutForm.{LayoutForm, HoldsTable, table_held, end_from, words_for}
 use Rattle.tv_row.specs.Packed.{cells_for}
-use Rattle.tv_struct.specs.TableForm.{TableForm}
+use Rattle.tv_structure_form.specs.TableForm.{TableForm}
 use Rattle.tv_struct.specs.Order.{planes_cmp}
 use Rattle.tv_struct.proofs.WordsLaws.{words_compare}
 use Rattle.tv_struct.proofs.planes.Planes.compare_values.Goals as goal

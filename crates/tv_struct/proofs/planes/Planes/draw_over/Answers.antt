@@ -1,6 +1,6 @@
 use Rattle.std.proofs.Common.{◌∙◌, refl, List, set, ap, sym}
 use Rattle.std.proofs.lemmas.List.{set-get_or}
-use Rattle.tv_struct.specs.TableForm.{PlaneForm, no_plane}
+use Rattle.tv_structure_form.specs.TableForm.{PlaneForm, no_plane}
 use Rattle.tv_struct.proofs.planes.Planes.draw_over.Goals as goal
 
 pub draw_plane-requires-clause-arity : goal.draw_plane-requires-clause-arity

@@ -1,7 +1,8 @@
 use Rattle.std.proofs.Common.{ℕ, ◌∙◌, List, ap, get_or, refl}
 use Rattle.tv_kleene.specs.declared.K3.{K3}
 use Rattle.tv_kleene.specs.declared.K3.TheVariants.{No}
-use Rattle.tv_struct.specs.TableForm.{PlaneForm, TableForm, plane_at, row_in, selected, table_with_row}
+use Rattle.tv_structure_form.specs.TableForm.{PlaneForm, TableForm, plane_at, row_in, selected}
+use Rattle.tv_structure_form.specs.TableForm.{table_with_row}
 use Rattle.tv_struct.proofs.PlaneDraws.{DrawsFrom, arity_read, row_origins, column_origins, drawn_row}
 use Rattle.tv_struct.proofs.PlaneDraws.{drawn_plane}
 use Rattle.tv_struct.proofs.planes.Planes.draw_plane.Goals as goal

@@ -1,5 +1,5 @@
 use Rattle.std.proofs.Common.{◌≡◌}
-use Rattle.tv_struct.specs.TableForm.{IsTable, plane_at, plane_drawn}
+use Rattle.tv_structure_form.specs.TableForm.{IsTable, plane_at, plane_drawn}
 use Rattle.tv_struct.proofs.PlaneDraws.{drawn_so_far}
 use Rattle.tv_struct.proofs.planes.Planes.draw_plane.Given as goal
 

@@ -1,6 +1,6 @@
 use Rattle.std.proofs.Common.{◌≡◌, ◌≢◌, ◌∙◌, length, set, ap, sym, arith}
 use Rattle.tv_kleene.specs.declared.K3.{K3}
-use Rattle.tv_struct.specs.TableForm.{plane_at, row_in, column_count, table_with_row}
+use Rattle.tv_structure_form.specs.TableForm.{plane_at, row_in, column_count, table_with_row}
 use Rattle.tv_struct.proofs.PlaneDraws.{arity_read, no_row, one_value, with_arguments}
 use Rattle.tv_struct.proofs.RowLaws.{row_long}
 use Rattle.tv_struct.proofs.planes.Planes.draw_row.Goals as goal

@@ -1,6 +1,6 @@
 use Rattle.std.proofs.Common.{◌<◌, ◌∙◌, List, length, set, ap, arith}
 use Rattle.std.proofs.lemmas.List.{length-map}
-use Rattle.tv_struct.specs.TableForm.{PlaneForm, TableForm, plane_at, plane_drawn}
+use Rattle.tv_structure_form.specs.TableForm.{PlaneForm, TableForm, plane_at, plane_drawn}
 use Rattle.tv_struct.proofs.PlaneDraws.{planes_blank, planes_step}
 use Rattle.tv_struct.proofs.planes.Planes.drawn.Goals as goal
 

@@ -1,5 +1,5 @@
 use Rattle.std.proofs.Common.{◌≡◌, length}
-use Rattle.tv_struct.specs.TableForm.{IsTable}
+use Rattle.tv_structure_form.specs.TableForm.{IsTable}
 use Rattle.tv_struct.proofs.PlaneDraws.{planes_so_far}
 use Rattle.tv_struct.proofs.planes.Planes.drawn.Given as goal
 

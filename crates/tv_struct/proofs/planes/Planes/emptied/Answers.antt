@@ -1,6 +1,6 @@
 use Rattle.std.proofs.Common.{ℕ, ◌≡◌, ◌∙◌, List, IfOk, ap, subst, sym}
 use Rattle.tv_struct.specs.LayoutForm.{LayoutForm}
-use Rattle.tv_struct.specs.TableForm.{table_of_no}
+use Rattle.tv_structure_form.specs.TableForm.{table_of_no}
 use Rattle.tv_struct.proofs.HeldLaws.{now_arities}
 use Rattle.tv_struct.proofs.planes.Planes.emptied.Goals as goal
 

@@ -3,8 +3,9 @@ use Rattle.std.proofs.lemmas.List.FromFn.{length-range_with_len}
 use Rattle.std.specs.List.{range_with_len}
 use Rattle.tv_kleene.specs.declared.K3.{K3}
 use Rattle.tv_kleene.specs.declared.K3.TheVariants.{No}
-use Rattle.tv_struct.specs.TableForm.{PlaneForm, TableForm, plane_at, row_in, selected, table_with_row}
-use Rattle.tv_struct.specs.TableForm.{row_count}
+use Rattle.tv_structure_form.specs.TableForm.{PlaneForm, TableForm, plane_at, row_in, selected}
+use Rattle.tv_structure_form.specs.TableForm.{table_with_row}
+use Rattle.tv_structure_form.specs.TableForm.{row_count}
 use Rattle.tv_struct.proofs.PlaneDraws.{DrawsFrom, row_origins, column_origins, row_origins-count, drawn_row}
 use Rattle.tv_struct.proofs.PlaneDraws.{drawn_plane, own_origin}
 use Rattle.tv_struct.proofs.planes.Planes.extend_plane.Goals as goal

@@ -1,6 +1,6 @@
 use Rattle.std.proofs.Common.{◌≡◌, ◌+◌}
 use Rattle.std.specs.List.{range_with_len}
-use Rattle.tv_struct.specs.TableForm.{IsTable, plane_at, plane_drawn}
+use Rattle.tv_structure_form.specs.TableForm.{IsTable, plane_at, plane_drawn}
 use Rattle.tv_struct.proofs.PlaneDraws.{drawn_so_far}
 use Rattle.tv_struct.proofs.planes.Planes.extend_plane.Given as goal
 

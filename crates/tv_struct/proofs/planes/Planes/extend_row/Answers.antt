@@ -2,7 +2,7 @@ use Rattle.std.proofs.Common.{◌≡◌, ◌≢◌, ◌+◌, ◌∙◌, length, 
 use Rattle.std.proofs.lemmas.List.FromFn.{length-range_with_len}
 use Rattle.std.specs.List.{range_with_len}
 use Rattle.tv_kleene.specs.declared.K3.{K3}
-use Rattle.tv_struct.specs.TableForm.{plane_at, row_in, column_count, table_with_row}
+use Rattle.tv_structure_form.specs.TableForm.{plane_at, row_in, column_count, table_with_row}
 use Rattle.tv_struct.proofs.PlaneDraws.{arity_read, no_row, one_value, with_arguments, columns_as_many}
 use Rattle.tv_struct.proofs.RowLaws.{row_long}
 use Rattle.tv_struct.proofs.planes.Planes.extend_row.Goals as goal

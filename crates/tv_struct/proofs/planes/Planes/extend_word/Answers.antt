@@ -6,7 +6,7 @@ use Rattle.tv_kleene.specs.declared.K3.TheVariants.{No}
 use Rattle.tv_row.specs.Drawing.{drawn_from, all_and_next}
 use Rattle.tv_row.specs.Places.{value_in}
 use Rattle.tv_row.proofs.DrawnRuns.{drawn_reads}
-use Rattle.tv_struct.specs.TableForm.{TableForm, plane_at, row_in, selected}
+use Rattle.tv_structure_form.specs.TableForm.{TableForm, plane_at, row_in, selected}
 use Rattle.tv_struct.proofs.HeldLaws.{IsTable-held, now_listed, now_row, now_read, now_seen, now_placed}
 use Rattle.tv_struct.proofs.HeldLaws.{now_put_word, narrow_cells}
 use Rattle.tv_struct.proofs.planes.Planes.extend_word.Goals as goal

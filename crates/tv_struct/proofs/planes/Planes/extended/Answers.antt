@@ -2,7 +2,8 @@ use Rattle.std.specs.List.{range_with_len}
 use Rattle.std.proofs.lemmas.List.FromFn.{length-range_with_len}
 use Rattle.std.proofs.Common.{◌+◌, sym, ◌<◌, ◌∙◌, List, length, set, ap, arith}
 use Rattle.std.proofs.lemmas.List.{length-map}
-use Rattle.tv_struct.specs.TableForm.{PlaneForm, TableForm, plane_at, plane_drawn, table_of_no, arities_in}
+use Rattle.tv_structure_form.specs.TableForm.{PlaneForm, TableForm, plane_at, plane_drawn, table_of_no}
+use Rattle.tv_structure_form.specs.TableForm.{arities_in}
 use Rattle.tv_struct.proofs.PlaneDraws.{planes_arity, planes_step}
 use Rattle.tv_struct.proofs.planes.Planes.extended.Goals as goal
 

@@ -1,6 +1,6 @@
 use Rattle.std.proofs.Common.{◌≡◌, ◌+◌, length}
 use Rattle.std.specs.List.{range_with_len}
-use Rattle.tv_struct.specs.TableForm.{IsTable}
+use Rattle.tv_structure_form.specs.TableForm.{IsTable}
 use Rattle.tv_struct.proofs.PlaneDraws.{planes_so_far}
 use Rattle.tv_struct.proofs.planes.Planes.extended.Given as goal
 

@@ -1,5 +1,5 @@
 use Rattle.std.proofs.Common.{◌≡◌, ◌≢◌, ◌≤◌, ◌∙◌, ℕ, ap, sym, arith}
-use Rattle.tv_struct.specs.TableForm.{TableForm, plane_at, row_in, column_count}
+use Rattle.tv_structure_form.specs.TableForm.{TableForm, plane_at, row_in, column_count}
 use Rattle.tv_struct.proofs.HeldLaws.{narrow_words}
 use Rattle.tv_struct.proofs.PlaneDraws.{arity_read, nowhere_drawn}
 use Rattle.tv_struct.proofs.RowLaws.{flat_there}

@@ -3,7 +3,7 @@ use Rattle.tv_kleene.specs.declared.K3.{K3}
 use Rattle.tv_row.specs.Mixed.{word_mixed}
 use Rattle.tv_row.specs.Packed.{PackedForm, cells_for, packed}
 use Rattle.tv_struct.specs.Signature.{table_packed}
-use Rattle.tv_struct.specs.TableForm.{TableForm}
+use Rattle.tv_structure_form.specs.TableForm.{TableForm}
 use Rattle.tv_struct.proofs.WordsLaws.{table_words_are}
 use Rattle.tv_struct.proofs.planes.Planes.mix.Goals as goal
 

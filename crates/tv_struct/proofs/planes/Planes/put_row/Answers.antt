@@ -1,5 +1,5 @@
 use Rattle.std.proofs.Common.{◌∙◌, length, get_or, ap, sym}
-use Rattle.tv_struct.specs.TableForm.{TableForm, plane_at, column_count}
+use Rattle.tv_structure_form.specs.TableForm.{TableForm, plane_at, column_count}
 use Rattle.tv_struct.proofs.HeldLaws.{IsTable-held, now_listed, now_arity, now_row, now_read, now_put}
 use Rattle.tv_struct.proofs.HeldLaws.{now_seen, values_room}
 use Rattle.tv_struct.proofs.planes.Planes.put_row.Goals as goal

@@ -1,5 +1,5 @@
 use Rattle.std.proofs.Common.{ℕ, ◌≡◌, ◌∙◌, length, get_or, ap, sym}
-use Rattle.tv_struct.specs.TableForm.{TableForm, plane_at, column_count}
+use Rattle.tv_structure_form.specs.TableForm.{TableForm, plane_at, column_count}
 use Rattle.tv_struct.proofs.HeldLaws.{now_listed, now_arity, now_row, now_columns, now_read, narrow_row}
 use Rattle.tv_struct.proofs.planes.Planes.row.Goals as goal
 

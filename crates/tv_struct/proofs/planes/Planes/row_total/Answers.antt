@@ -1,5 +1,5 @@
 use Rattle.std.proofs.Common.{◌∙◌, ap, sym}
-use Rattle.tv_struct.specs.TableForm.{TableForm, plane_at, row_count}
+use Rattle.tv_structure_form.specs.TableForm.{TableForm, plane_at, row_count}
 use Rattle.tv_struct.proofs.HeldLaws.{now_listed, now_arity, now_rows}
 use Rattle.tv_struct.proofs.planes.Planes.row_total.Goals as goal
 

@@ -1,8 +1,8 @@
 use Rattle.std.proofs.Common.{◌∙◌, sym}
-use Rattle.tv_struct.specs.TableForm.{plane_at}
+use Rattle.tv_structure_form.specs.TableForm.{plane_at}
 use Rattle.tv_struct.specs.TupleForm.{tuple_of}
-use Rattle.tv_struct.proofs.TableLaws.{HasEntry-lt, HasEntry-arity, entry_row-lt, entry_column-lt}
-use Rattle.tv_struct.proofs.StructureLaws.{value_in-fits}
+use Rattle.tv_structure_form.proofs.TableLaws.{HasEntry-lt, HasEntry-arity, entry_row-lt, entry_column-lt}
+use Rattle.tv_structure_form.proofs.StructureLaws.{value_in-fits}
 use Rattle.tv_struct.proofs.planes.PlanesTable.get.Goals as goal
 
 pub cell-requires-clause-predicate : goal.cell-requires-clause-predicate

@@ -1,6 +1,6 @@
 use Rattle.std.proofs.Common.{◌∙◌}
 use Rattle.tv_struct.specs.TupleForm.{tuple_of}
-use Rattle.tv_struct.proofs.TableLaws.{HasEntry-lt, entry_row-lt, entry_column-lt}
+use Rattle.tv_structure_form.proofs.TableLaws.{HasEntry-lt, entry_row-lt, entry_column-lt}
 use Rattle.tv_struct.proofs.planes.PlanesTable.set.Goals as goal
 
 pub put_cell-requires-clause-predicate : goal.put_cell-requires-clause-predicate

@@ -1,6 +1,6 @@
 use Rattle.std.proofs.Common.{◌∙◌, ap}
-use Rattle.tv_struct.specs.TableForm.{TableForm, arities_in}
-use Rattle.tv_struct.proofs.StructureLaws.{arities_in-drawn}
+use Rattle.tv_structure_form.specs.TableForm.{TableForm, arities_in}
+use Rattle.tv_structure_form.proofs.StructureLaws.{arities_in-drawn}
 use Rattle.tv_struct.proofs.structure.Structure.drawn.Goals as goal
 
 pub returns-clause-over : goal.returns-clause-over

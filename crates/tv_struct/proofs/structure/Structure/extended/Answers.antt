@@ -1,7 +1,7 @@
 use Rattle.std.proofs.Common.{◌+◌, ◌∙◌, ap}
 use Rattle.std.specs.List.{range_with_len}
-use Rattle.tv_struct.specs.TableForm.{TableForm, arities_in}
-use Rattle.tv_struct.proofs.StructureLaws.{arities_in-drawn}
+use Rattle.tv_structure_form.specs.TableForm.{TableForm, arities_in}
+use Rattle.tv_structure_form.proofs.StructureLaws.{arities_in-drawn}
 use Rattle.tv_struct.proofs.structure.Structure.extended.Goals as goal
 
 pub returns-clause-over : goal.returns-clause-over

@@ -1,6 +1,6 @@
 use Rattle.std.proofs.Common.{subst, ap, ◌∙◌}
-use Rattle.tv_struct.specs.TableForm.{TableForm}
-use Rattle.tv_struct.specs.StructureForm.{StructureForm, IsStructure}
+use Rattle.tv_structure_form.specs.TableForm.{TableForm}
+use Rattle.tv_structure_form.specs.StructureForm.{StructureForm, IsStructure}
 use Rattle.tv_struct.specs.StructureRows.{with_row}
 use Rattle.tv_struct.proofs.RowLaws.{writes_unary_row}
 use Rattle.tv_struct.proofs.structure.Structure.set_unary_row.Goals as goal

@@ -1,6 +1,6 @@
 use Rattle.std.proofs.Common.{◌∙◌, fold, ap}
 use Rattle.tv_row.specs.Mixed.{word_mixed, row_mixed}
-use Rattle.tv_struct.specs.StructureForm.{StructureForm, table_of}
+use Rattle.tv_structure_form.specs.StructureForm.{StructureForm, table_of}
 use Rattle.tv_struct.specs.StructureRows.{summary_row}
 use Rattle.tv_struct.specs.Signature.{table_packed}
 use Rattle.tv_struct.proofs.structure.Structure.signature.Goals as goal

@@ -1,4 +1,4 @@
-use Rattle.tv_struct.proofs.DrawnLaws.{IsMark-split}
+use Rattle.tv_structure_form.proofs.DrawnLaws.{IsMark-split}
 use Rattle.tv_struct.proofs.structure.Structure.split.Goals as goal
 
 pub drawn-requires-in-Some-clause-mark : goal.drawn-requires-in-Some-clause-mark

@@ -1,5 +1,5 @@
 use Rattle.std.proofs.Common.{◌≡◌, ◌∙◌, length, map, ap, subst}
-use Rattle.tv_struct.specs.StructureForm.{StructureForm}
+use Rattle.tv_structure_form.specs.StructureForm.{StructureForm}
 use Rattle.tv_struct.specs.StructureRows.{flag_value}
 use Rattle.tv_struct.proofs.FlagLaws.{summaries_row}
 use Rattle.tv_struct.proofs.structure.Structure.summary_row.Goals as goal

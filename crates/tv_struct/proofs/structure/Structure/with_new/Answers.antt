@@ -1,7 +1,7 @@
 use Rattle.std.proofs.Common.{◌+◌, ◌∙◌, arith}
 use Rattle.std.proofs.lemmas.List.FromFn.{length-range_with_len, get_or-range_with_len}
 use Rattle.std.specs.List.{range_with_len}
-use Rattle.tv_struct.proofs.DrawnLaws.{IsMark-drawn, summary_at-past}
+use Rattle.tv_structure_form.proofs.DrawnLaws.{IsMark-drawn, summary_at-past}
 use Rattle.tv_struct.proofs.structure.Structure.with_new.Goals as goal
 
 pub extended-requires-clause-mark : goal.extended-requires-clause-mark

@@ -1,5 +1,5 @@
 use Rattle.std.proofs.Common.{◌≡◌, [], ◌∷◌}
-use Rattle.tv_struct.specs.StructureForm.{arities_of}
+use Rattle.tv_structure_form.specs.StructureForm.{arities_of}
 use Rattle.tv_test_engine.proofs.parts.embed.rings.Given as goal
 
 abbrev pub invariant-loop-u : goal.invariant-loop-u

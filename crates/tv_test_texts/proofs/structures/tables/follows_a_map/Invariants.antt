@@ -1,5 +1,5 @@
 use Rattle.std.proofs.Common.{◌≡◌, [], ◌∷◌}
-use Rattle.tv_struct.specs.TableForm.{arities_in}
+use Rattle.tv_structure_form.specs.TableForm.{arities_in}
 use Rattle.tv_test_texts.proofs.structures.tables.follows_a_map.Given as goal
 
 abbrev pub invariant-loop-step : goal.invariant-loop-step

@@ -1,7 +1,7 @@
 use Rattle.std.proofs.Common.{subst, List, Ok}
 use Rattle.std.specs.Prelude.{IfOk, IfErr}
 use Rattle.tv_lex.specs.Token.{spec_tokens}
-use Rattle.tv_struct.specs.StructureForm.{StructureForm}
+use Rattle.tv_structure_form.specs.StructureForm.{StructureForm}
 use Rattle.tv_lex.specs.Places.{StopsAtToken}
 use Rattle.tv_tvs.specs.Meaning.{structures_place, Answers, IsStructuresCause, MeansStructs, structs_meant}
 use Rattle.tv_tvs.specs.Views.{struct_trees}

@@ -1,6 +1,6 @@
 use Rattle.std.proofs.Common.{◌≡◌, ◌∙◌, refl, subst, arith}
 use Rattle.std.specs.Prelude.{OnOk}
-use Rattle.tv_struct.specs.StructureForm.{value_at}
+use Rattle.tv_structure_form.specs.StructureForm.{value_at}
 use Rattle.tv_struct.specs.StructureRows.{row_at}
 use Rattle.tv_tvs.proofs.RowTexts.{pairs_turn, begun_turn, rows_end}
 use Rattle.tv_tvs.proofs.write.StructureWriter.write_pairs.Goals as goal

@@ -1,6 +1,6 @@
 use Rattle.std.proofs.Common.{◌≡◌, ◌++◌}
 use Rattle.std.specs.List.{flat_map, range_with_len}
-use Rattle.tv_struct.specs.StructureForm.{value_at}
+use Rattle.tv_structure_form.specs.StructureForm.{value_at}
 use Rattle.tv_tvs.specs.Canonical.{row_items}
 use Rattle.tv_tvs.specs.Rows.{are_some, begun_text}
 use Rattle.tv_tvs.proofs.write.StructureWriter.write_pairs.Given as goal

@@ -4,7 +4,7 @@ use Rattle.tv_model.specs.Form.{form_of}
 use Rattle.tv_model.specs.Truth.{put}
 use Rattle.tv_eval.specs.Along.{values_along}
 use Rattle.tv_eval.specs.AssignmentForm.{assignment_of}
-use Rattle.tv_eval.specs.Bound.{IsBound, bound_structure, bound_room}
+use Rattle.tv_eval.specs.Bound.{bound_structure}
 use Rattle.tv_update.proofs.rows.Rows.fill_pairs.Given as goal
 
 abbrev pub invariant-loop-u : goal.invariant-loop-u
@@ -13,7 +13,5 @@ invariant-loop-u l = record {
       ≡ map (λ u. values_along (bound_structure l.fn.e) (put (assignment_of l.a) l.v.0 u) l.w.0 (form_of l.f))
       (range_with_len 0 l.u);
   size : l.self.size ≡ l.fn.self.size;
-  bound : IsBound l.e;
-  structure : bound_structure l.e ≡ bound_structure l.fn.e;
-  room : bound_room l.e ≡ bound_room l.fn.e;
+  same : l.e ≡ l.fn.e;
 }

@@ -1,6 +1,6 @@
 use Rattle.std.proofs.Common.{ℕ, ◌≡◌, ◌≢◌, ◌<◌, List, [], ◌∷◌}
-use Rattle.tv_struct.specs.TableForm.{cell}
-use Rattle.tv_struct.specs.StructureForm.{IsStructure, value_at}
+use Rattle.tv_structure_form.specs.TableForm.{cell}
+use Rattle.tv_structure_form.specs.StructureForm.{IsStructure, value_at}
 use Rattle.tv_update.specs.Rows.{IsLike}
 use Rattle.tv_update.proofs.rows.Rows.put_pairs.Given as goal
 

@@ -2,8 +2,8 @@ use Rattle.std.proofs.Common.{◌≡◌, ◌⊎◌, None, [], subst, All}
 use Rattle.std.specs.Prelude.{Contains}
 use Rattle.std.proofs.lemmas.List.Elements.{All-head}
 use Rattle.std.proofs.lemmas.Result.{on_ok_weaker, IfErr-weaker}
-use Rattle.tv_struct.specs.StructureForm.{StructureForm}
-use Rattle.tv_work.specs.Analysed.{IsMeetCause}
+use Rattle.tv_structure_form.specs.StructureForm.{StructureForm}
+use Rattle.tv_work.specs.Analyzed.{IsMeetCause}
 use Rattle.tv_work.specs.Reach.{Point, IsListed}
 use Rattle.tv_work.proofs.Causes.{meet-weaker}
 use Rattle.tv_work.proofs.Growing.{one-there, among-one}

@@ -1,7 +1,7 @@
 use Rattle.std.proofs.Common.{map, ◌≤◌, arith}
 use Rattle.std.proofs.lemmas.List.{take_all, length-map}
 use Rattle.std.proofs.lemmas.List.Elements.{All-map}
-use Rattle.tv_struct.proofs.TableLaws.{IsTable-of_no}
+use Rattle.tv_structure_form.proofs.TableLaws.{IsTable-of_no}
 use Rattle.tv_test_texts.proofs.structures.nested.Nested.of_no.Goals as goal
 
 pub invariant_of-result : goal.invariant_of-result

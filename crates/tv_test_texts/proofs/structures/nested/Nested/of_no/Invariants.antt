@@ -1,5 +1,5 @@
 use Rattle.std.proofs.Common.{◌≡◌, map, take}
-use Rattle.tv_struct.specs.TableForm.{plane_of_no}
+use Rattle.tv_structure_form.specs.TableForm.{plane_of_no}
 use Rattle.tv_test_texts.proofs.structures.nested.Nested.of_no.Given as goal
 
 abbrev pub invariant-loop-pred : goal.invariant-loop-pred

@@ -1,6 +1,0 @@
-mod Ends
-mod FormulaEnds
-mod ProgramEnds
-mod WidthLaws
-mod Standing
-mod OnLines

@@ -1,5 +1,0 @@
-use Rattle.tv_family_laws.proofs.Stability.{counts_are_closed_sets}
-use Rattle.tv_family_laws.proofs.laws.counts_are_closed_sets.Goals as goal
-
-pub returns : goal.returns
-returns c = counts_are_closed_sets

@@ -1,5 +1,0 @@
-use Rattle.tv_struct.proofs.StructureLaws.{drawn_reads}
-use Rattle.tv_struct.proofs.laws.drawn_structures_read.Goals as goal
-
-pub returns : goal.returns
-returns c = drawn_reads

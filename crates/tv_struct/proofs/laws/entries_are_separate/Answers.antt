@@ -1,5 +1,0 @@
-use Rattle.tv_struct.proofs.StructureLaws.{writes_one_entry, writes_one_summary}
-use Rattle.tv_struct.proofs.laws.entries_are_separate.Goals as goal
-
-pub returns : goal.returns
-returns c = record { values = writes_one_entry; summaries = writes_one_summary }

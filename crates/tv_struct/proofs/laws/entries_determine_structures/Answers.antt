@@ -1,5 +1,0 @@
-use Rattle.tv_struct.proofs.StructureLaws.{same_structure}
-use Rattle.tv_struct.proofs.laws.entries_determine_structures.Goals as goal
-
-pub returns : goal.returns
-returns c = same_structure

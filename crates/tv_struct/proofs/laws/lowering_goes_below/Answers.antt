@@ -1,5 +1,0 @@
-use Rattle.tv_struct.proofs.HalfLaws.{entry_below, summary_below}
-use Rattle.tv_struct.proofs.laws.lowering_goes_below.Goals as goal
-
-pub returns : goal.returns
-returns c = record { entries = entry_below; summaries = summary_below }

@@ -1,5 +1,0 @@
-use Rattle.tv_struct.proofs.StructureLaws.{new_is_no}
-use Rattle.tv_struct.proofs.laws.new_structures_are_no.Goals as goal
-
-pub returns : goal.returns
-returns c = new_is_no

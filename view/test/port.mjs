@@ -1,0 +1,128 @@
+import { bytesOf } from "../src/tokens.mjs";
+import { Report } from "../src/reports.mjs";
+import { Drawing } from "../src/drawing.mjs";
+import { structureFile } from "../src/svg.mjs";
+import { pngOf } from "../src/large.mjs";
+import { Page } from "../src/page.mjs";
+
+/* ======== Port: the page of tests, which frames this copy, calls these by messages ======== */
+const filesOf = files => {
+  const transfer = new DataTransfer();
+  for (const { name, text } of files) transfer.items.add(new File([text], name));
+  return transfer;
+};
+const settled = () => new Promise(resolve => setTimeout(resolve, 120));
+/** The share of dark points in a picture. */
+const darkness = async blob => {
+  const bitmap = await createImageBitmap(blob), canvas = document.createElement("canvas");
+  Object.assign(canvas, { width: bitmap.width, height: bitmap.height });
+  canvas.getContext("2d").drawImage(bitmap, 0, 0);
+  const { data } = canvas.getContext("2d").getImageData(0, 0, canvas.width, canvas.height);
+  let dark = 0;
+  for (let i = 0; i < data.length; i += 4) if (data[i + 3] > 128 && data[i] + data[i + 1] + data[i + 2] < 300) dark++;
+  return dark / (data.length / 4);
+};
+const port = {
+  /** Files by the page's own chooser. */
+  choose: async (files, hash = "") => {
+    history.replaceState(null, "", location.pathname + location.search + hash);
+    const input = document.getElementById("files");
+    input.files = filesOf(files).files;
+    input.dispatchEvent(new Event("change"));
+    await settled();
+  },
+  drop: async files => {
+    dispatchEvent(new DragEvent("drop", { dataTransfer: filesOf(files), cancelable: true }));
+    await settled();
+  },
+  paste: async text => {
+    const clipboardData = new DataTransfer();
+    clipboardData.setData("text/plain", text);
+    document.body.dispatchEvent(Object.assign(new Event("paste", { bubbles: true }), { clipboardData }));
+    await settled();
+  },
+  forget: () => {
+    history.replaceState(null, "", location.pathname + location.search);
+    Page.given = new Page.given.constructor();
+    Page.gather();
+    Page.refresh();
+    Page.say("");
+  },
+  search: async query => {
+    document.getElementById("query").value = query;
+    document.getElementById("search").requestSubmit();
+    await settled();
+  },
+  click: async (selector, index = 0) => {
+    const element = [...document.querySelectorAll(selector)][index];
+    element.tagName === "INPUT" ? element.click() : element.dispatchEvent(new MouseEvent("click", { bubbles: true, cancelable: true }));
+    await settled();
+  },
+  address: async hash => {
+    if (hash !== undefined) location.hash = hash;
+    await settled();
+    return location.hash;
+  },
+  back: async () => {
+    const changed = new Promise(resolve => addEventListener("hashchange", resolve, { once: true }));
+    history.back();
+    await changed;
+    await settled();
+    return location.hash;
+  },
+  press: async (key, selector) => {
+    if (selector) document.querySelector(selector).focus();
+    (document.activeElement ?? document.body).dispatchEvent(new KeyboardEvent("keydown", { key, bubbles: true, cancelable: true }));
+    await settled();
+  },
+  texts: selector => [...document.querySelectorAll(selector)].map(element => element.textContent),
+  count: selector => document.querySelectorAll(selector).length,
+  attributes: (selector, name) => [...document.querySelectorAll(selector)].map(element => element.getAttribute(name)),
+  title: () => document.title,
+  scroll: async (selector, top) => {
+    document.querySelector(selector).scrollTop = top;
+    await settled();
+  },
+  active: () => document.activeElement.id,
+  size: selector => {
+    const { width, height } = document.querySelector(selector).getBoundingClientRect();
+    return { width, height };
+  },
+  colour: (selector, name) => getComputedStyle(document.querySelector(selector)).getPropertyValue(name),
+  select: async (selector, value) => {
+    const element = document.querySelector(selector);
+    element.value = value;
+    element.dispatchEvent(new Event("change"));
+    await settled();
+  },
+  theme: name => { document.documentElement.style.colorScheme = name; },
+  /** How dark the picture of a report's first structure is. */
+  darkness: async text => {
+    const report = await Report.read(bytesOf(text));
+    return darkness(await pngOf(structureFile(new Drawing(report.structure(0), Page.roles), "one")));
+  },
+  refuses: async () => {
+    const refused = act => new Promise(resolve => {
+      addEventListener("securitypolicyviolation", event => resolve(event.effectiveDirective), { once: true });
+      act();
+    });
+    const connect = await refused(() => fetch("https://example.invalid/").catch(() => {}));
+    const image = await refused(() => { new Image().src = "https://example.invalid/i.png"; });
+    globalThis.hasRun = false;
+    const script = document.createElement("script");
+    try {
+      script.append("globalThis.hasRun = true");
+      document.head.append(script);
+    } catch { /* refused as text already */ }
+    await settled();
+    return { connect, image, hasRun: globalThis.hasRun };
+  },
+};
+addEventListener("message", async ({ data: { id, call, given }, source }) => {
+  try {
+    source.postMessage({ id, result: await port[call](...given) }, "*");
+  } catch (fault) {
+    source.postMessage({ id, fault: fault.stack ?? String(fault) }, "*");
+  }
+});
+if (parent !== window) parent.postMessage({ id: "ready" }, "*");

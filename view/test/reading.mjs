@@ -1,0 +1,542 @@
+// Tests of what the page reads and says, which need no browser: node view/test/reading.mjs. What is expected comes from docs/FORMATS.md
+// and is written here by hand, or it is what the programs wrote: the reports of the examples and the outputs in docs/TUTORIAL.md.
+import { execFileSync } from "node:child_process";
+import { createHash } from "node:crypto";
+import { existsSync, readdirSync, readFileSync } from "node:fs";
+import { dirname, join } from "node:path";
+import { fileURLToPath } from "node:url";
+import vm from "node:vm";
+import { bytesOf } from "../src/tokens.mjs";
+import { Report } from "../src/reports.mjs";
+import { Program } from "../src/programs.mjs";
+import { Roles } from "../src/roles.mjs";
+import { Line, LineReader } from "../src/lines.mjs";
+import { Explanation, ShownListing } from "../src/explanations.mjs";
+import { Replay } from "../src/replays.mjs";
+import { Runs } from "../src/runs.mjs";
+import { origins } from "../src/origins.mjs";
+import { follow, runFrames } from "../src/film.mjs";
+import { Layout } from "../src/layout.mjs";
+import { Drawing } from "../src/drawing.mjs";
+import { Plan } from "../src/plan.mjs";
+import { Search } from "../src/search.mjs";
+import { Links } from "../src/links.mjs";
+import { GivenFile, Given, kindOf } from "../src/files.mjs";
+import { firstDifference } from "../src/fits.mjs";
+import { structureWords } from "../src/words.mjs";
+import { drawingTrees, svgFile } from "../src/svg.mjs";
+import { dotText, tikzText } from "../src/texts.mjs";
+import { Kleene } from "../src/kleene.mjs";
+import { collisions, sum } from "./collisions.mjs";
+
+const ROOT = join(dirname(fileURLToPath(import.meta.url)), "..", "..");
+const TESTS = [];
+/** A test answers what it found and what is expected; they are compared as JSON. */
+const test = (name, act) => TESTS.push([name, act]);
+const read = text => Report.read(bytesOf(text));
+const bytesIn = path => new Uint8Array(readFileSync(join(ROOT, path)));
+const textIn = path => readFileSync(join(ROOT, path), "utf8");
+const faultOf = async (text, act) => {
+  try {
+    await act(text);
+    return "";
+  } catch (fault) {
+    return fault.told("it", bytesOf(text));
+  }
+};
+/** The structures of a report with their roles. */
+const shown = async (text, program = null) => {
+  const report = await read(text), structures = report.places.map((_, place) => report.structure(place));
+  return { report, structures, roles: new Roles([report.census], program, structures) };
+};
+
+const HEAD = "tvla report 2\n";
+const TWO = `tvla report 2
+node L1 structures 2
+%n = {i0, i1}
+%p = {
+  x = {i1}
+  n = {i0->i0:1/2, i1->i0:1/2}
+  t[n] = {i0->i0:1/2, i1->i0, i1->i1}
+  r[n,x] = {i0, i1}
+  b = 1/2
+  sm = {i0:1/2}
+}
+%n = {}
+%p = {
+}
+node L2 structures 0
+message 3 0 1/2 "null dereference of y"
+map initial 0 to 1 {}
+map edge 0 0 1 to 0 {0, 1}
+end
+`;
+const FREE = `/* a report */ tvla report 1 node L1 structures 1
+%n={0,E , u} // three
+%p={ r [ n , x ] = {u:0, E, E:1/2} sm = {E:1/2,0:0} b=1 c=0 n = {0->u,u->u:1/2,0->u:0} m = {} }
+end // of it`;
+const LIST = `node L structures 3
+%n = {i0, i1, i2}
+%p = { x = {i2} y = {i1} n = {i2->i1, i1->i0:1/2, i0->i0:1/2} t[n] = {i0->i0:1/2, i1->i0, i1->i1, i2->i0,
+    i2->i1, i2->i2} sm = {i0:1/2} }
+%n = {i0, i1}
+%p = { x = {i0} n = {i0->i1} t[n] = {i0->i0, i0->i1, i1->i1} b = 1 }
+%n = {i0, i1}
+%p = { x = {i1} y = {i0:1/2} n = {i1->i0} t[n] = {i0->i0, i1->i0, i1->i1} b = 1/2 }
+end`;
+const TREE = `node L structures 1
+%n = {i0, i1, i2, i3}
+%p = { x = {i3} y = {i0} left = {i3->i1, i1->i0} right = {i3->i2} }
+end`;
+const DOUBLE = `node L structures 1
+%n = {i0, i1}
+%p = { x = {i1} f = {i1->i0} b = {i0->i1} }
+end`;
+const PROGRAM = `%s PVar = {x, y} - {y} + {z}
+#include "more/preds.tvp"
+foreach (s in {left, right}) { %p s(v, w) function }
+%i down(v, w) = left(v, w) | right(v, w)
+%i t[n](v, w) = n*(v, w) transitive reflexive
+%i o() = E(v) x(v) & z(v) nonabs
+foreach (q in PVar - PVar) { %p q(v) }
+%r t[n](v, w) ==> !n(w, v)
+%%
+%action Get(lhs, rhs) {
+  %t lhs + " = " + rhs + "->n"
+  %message !(E(v) rhs(v)) -> "null " + rhs
+  { lhs(v) = E(w) rhs(w) & n(w, v) foreach (q in PVar) { r[n,q](v) = 0 } }
+}
+%action Other() { }
+%%
+L1 Get(x, z) L2 // a step
+L2 Other() 7
+%% L1, L2`;
+const PREDS = `foreach (z in PVar) { %p z(v) unique box %i r[n,z](v) = E(w) z(w) & n*(w, v) }
+%p n(v, w) function`;
+const programOf = () => Program.read({ path: "p.tvp", text: PROGRAM }, [{ path: "preds.tvp", text: PREDS }]);
+
+/* ---- the page as it is put together ---- */
+test("the page's script is one that browsers read, and its hash stands in the policy", () => {
+  const page = textIn("view/index.html"), script = /<script>([^]*)<\/script>/.exec(page)[1];
+  new vm.Script(script);
+  return [/script-src '(.*?)'/.exec(page)[1], `sha256-${createHash("sha256").update(script).digest("base64")}`];
+});
+test("the page names no address and has no door for tests", () => {
+  const page = textIn("view/index.html");
+  return [[page.match(/https?:\/\/[^"` ]+/g).filter(address => address !== "http://www.w3.org/2000/svg"), /postMessage|unsafe-eval|innerHTML/.test(page)], [[], false]];
+});
+
+/* ---- reports ---- */
+test("a canonical report is written back byte for byte", async () => [(await read(TWO)).write(), TWO]);
+test("blanks, comments, any individuals, the last of several values", async () => [(await read(FREE)).write(),
+  "tvla report 1\nnode L1 structures 1\n%n = {0, E, u}\n%p = {\n  r[n,x] = {E:1/2}\n  b = 1\n"
+    + "  n = {u->u:1/2}\n  sm = {E:1/2}\n}\nend\n"]);
+test("faults have a line, a column and what was expected", async () => {
+  const rows = [
+    ["", "it, line 1, column 1: expected `tvla report 2`, found the end of the file"],
+    [HEAD + "message 0 0 0 \"\"\nend", "it, line 2, column 13: expected `1` or `1/2`, found `0`"],
+    ["tvla report 3", "it, line 1, column 13: expected `1` or `2`, found `3`"],
+    ["tvla report 2\nnode L structures 01",
+      "it, line 2, column 19: expected how many structures follow: a number below 4294967296 without "
+        + "leading zeros, found `01`"],
+    [HEAD + "node L structures 2\n%n={} %p={}\nend",
+      "it, line 4, column 1: expected `%n` of structure 1 of the 2 of node L, found `end`"],
+    [HEAD + "node L structures 1\n%n = {u, u}",
+      "it, line 3, column 10: expected an individual that isn't listed yet, found `u`"],
+    [HEAD + "node L structures 1\n%n = {u}\n%p = { x = {v} }",
+      "it, line 4, column 13: expected an individual that `%n` lists, found `v`"],
+    [HEAD + "node L structures 1\n%n = {u}\n%p = { x = {u:2} }",
+      "it, line 4, column 15: expected a value `0`, `1` or `1/2`, found `2`"],
+    [HEAD + "node L structures 1\n%n = {u}\n%p = { sm = {u} }",
+      "it, line 4, column 15: expected `:1/2` or `:0` for `sm`, found `}`"],
+    [HEAD + "node L structures 1\n%n = {u}\n%p = { x = {u} x = {u->u} }",
+      "it, line 4, column 21: expected individuals for `x`, as before, found `u->u}`"],
+    [HEAD + "node L structures 1\n%n = {u}\n%p = { E = {u} }",
+      "it, line 4, column 8: expected the name of a predicate, found `E`"],
+    [HEAD + "node L structures 0\nnode L structures 0 end",
+      "it, line 3, column 6: expected a node that isn't listed yet, found `L`"],
+    [HEAD + "message 0 0 1 \"a\nend",
+      "it, line 2, column 17: expected `\"` at the end of a string, found \"\\n\""],
+    [HEAD + "/* end",
+      "it, line 2, column 1: expected a comment that ends with `*/`, found the end of the file"],
+    [HEAD + "end end", "it, line 2, column 5: expected the end of the file, found `end`"],
+    ["tvla report 1 map initial 0 to 0 {} end",
+      "it, line 1, column 15: expected `node`, `message` or `end`, found `map`"],
+    [HEAD + "~", "it, line 2, column 1: expected a token, found \"~\""],
+  ];
+  return [await Promise.all(rows.map(([text]) => faultOf(text, read))), rows.map(([, told]) => told)];
+});
+test("individuals beyond the 256th are refused", async () => {
+  const of = size =>
+    `${HEAD}node L structures 1 %n = {${Array.from({ length: size }, (_, i) => `i${i}`)}} %p = {} end`;
+  return [[await faultOf(of(256), read), (await faultOf(of(257), read)).replace(/.*: /, "")],
+    ["", "expected `}` behind 256 individuals, found `i256`"]];
+});
+test("predicates come from all structures: one in 1,000 has two that no other has", async () => {
+  const plain = "%n = {i0} %p = { x = {i0} }", rare = "%n = {i0} %p = { x = {i0} bad = {i0} dangling = 1/2 }";
+  const { roles, report } = await shown(`${HEAD}node L structures 1000 ${Array.from({ length: 1000 }, (_, i) =>
+    i === 500 ? rare : plain).join(" ")} end`);
+  const found = report.places.filter((_, place) => Search.compile("dangling?, bad", roles)(report.structure(place)));
+  const words = structureWords(report.structure(500), roles);
+  return [[roles.all.map(({ name }) => name), found.map(({ index }) => index), Line.write(report.structure(500), roles.all),
+    words.includes("dangling may be true"), Line.write(report.structure(499), roles.all)],
+    [["x", "bad", "dangling"], [500], "(x&bad)  dangling?", true, "(x)"]];
+});
+test("what holds of two cells in one structure of many is no pointer", async () => {
+  const plain = "%n = {i0, i1} %p = { x = {i0} }", two = "%n = {i0, i1} %p = { x = {i0, i1} }";
+  const { roles } = await shown(`${HEAD}node L structures 1000 ${Array.from({ length: 1000 }, (_, i) =>
+    i === 777 ? two : plain).join(" ")} end`);
+  return [roles.all.map(({ kind, name }) => `${kind} ${name}`), ["property x"]];
+});
+test("predicates stand in the order of declaration, also where no structure has all", async () => [
+  (await shown(`${HEAD}node L structures 2 %n = {u} %p = { y = {u} n = {u->u} } %n = {u} %p = { x = {u} y = {u} } end`))
+    .roles.all.map(({ name }) => name), ["x", "y", "n"]]);
+
+/* ---- lines, and what tvla-explain writes ---- */
+test("structures as lines", async () => {
+  const { structures, roles } = await shown(HEAD + LIST);
+  return [structures.map(structure => Line.write(structure, roles.all)), [
+    "((#0))-n?->((#0))&-t[n]?->((#0))  (y)-n?->((#0))&-t[n]->((#0))&-t[n]->(y)  (x)-n->(y)&-t[n]->((#0))&-t[n]->(y)&-t[n]->(x)",
+    "(x)-n->(#1)&-t[n]->(x)&-t[n]->(#1)  (#1)-t[n]->(#1)  b",
+    "(#0&y?)-t[n]->(#0)  (x)-n->(#0)&-t[n]->(#0)&-t[n]->(x)  b?"]];
+});
+const lineRead = text => {
+  const reader = new LineReader(`  ${text}`, 0, text.length + 2);
+  return reader.structure().write();
+};
+test("lines are read", () => [
+  [lineRead("(x&t?)-n->(#1)  (#1)-n?->((t))  ((t))  b?"), new LineReader("", 0, 0).structure().write()],
+  ["%n = {i0, i1, i2}\n%p = {\n  x = {i0}\n  t = {i0:1/2, i2}\n  b = 1/2\n  n = {i0->i1, i1->i2:1/2}\n  sm = {i2:1/2}\n}\n",
+    "%n = {}\n%p = {\n}\n"]]);
+test("what isn't in the grammar of lines is refused with line and column", async () => {
+  const rows = [
+    ["initial 0 (x)", "column 10: expected `  `, found ` (x)`"],
+    ["initial 0  (x", "column 14: expected `)`, found the end of the line"],
+    ["initial 0  (x,y)", "column 14: expected `)`, found `,y)`"],
+    ["initial 0  (x)-n-> (y)  (y)", "column 19: expected `(`, found ` (y)  (y)`"],
+    ["initial 0  (x)-n->(z)", "column 19: expected an individual as it is called in this line, found `(z)`"],
+    ["initial 0  (x)-n->((x))", "column 19: expected an individual as it is called in this line, found `((x))`"],
+    ["initial 0  (x&y)-n->(y)  (#1&x)", ""],
+    ["initial 0  (#1)", "column 13: expected `#0`, the individual's number, found `#1)`"],
+    ["initial 0  (#0&x)", "column 12: expected no number, since a predicate tells the individual from the others, found `(#0&x)`"],
+    ["initial 0  (x)  (x)", "column 12: expected `#0`, since no predicate tells the individual from the others, found `(x)  (x)`"],
+    ["initial 0  (x)  b  (y)", "column 20: expected the name of a predicate, found `(y)`"],
+    ["initial 0  (x)  x", "column 17: expected a predicate of 0 arguments, found `x`"],
+    ["initial 0  ()", "column 13: expected the name of a predicate, found `)`"],
+    ["edge 0 p:2  L0 Go ( ) L1", "column 7: expected `  `, found ` p:2  L0 Go ( ) L1`"],
+    ["edge 0  p:2  L0 Go() L1", "column 9: expected `FILE:LINE`, two blanks and an edge, found `p:2  L0 Go() L1`"],
+    ["edge 1  p:2  L0 Go ( ) L1", "column 6: expected edge 0, found `1  p:2  L0 Go ( ) L1`"],
+    ["node L structures 1\n1  (x)", "line 2, column 1: expected place 0 of node L, found `1  (x)`"],
+    ["node L lists", "column 7: expected ` structures `, found ` lists`"],
+    ["nothing is lost\nedge 0 loses 1 of 2", "line 2, column 7: expected ` loses LOST of LISTED structures, first PLACE`, found ` loses 1 of 2`"],
+    ["what is this", "column 1: expected a line of tvla-explain, found `what is this`"],
+  ];
+  const told = await Promise.all(rows.map(([text]) => faultOf(text, text => Explanation.read(bytesOf(text)))));
+  return [told, rows.map(([, told]) => told && (told.startsWith("line") ? `it, ${told}` : `it, line 1, ${told}`))];
+});
+/** The blocks of the tutorial, as the programs write them. */
+const blocks = textIn("docs/TUTORIAL.md").split("\n\n").filter(block => block.split("\n").every(line => line.startsWith("    ")))
+  .map(block => block.replace(/^ {4}/gm, "") + "\n");
+const block = begin => blocks.find(text => text.startsWith(begin));
+test("the chain of docs/TUTORIAL.md is read, and written back byte for byte", () => {
+  const text = block("initial 0  ((#0"), { kind, steps, census } = Explanation.read(bytesOf(text));
+  const written = steps.map(({ title, structure, message }) => title + (message
+    ? `  message ${message.number} is ${Kleene.text(message.value)}: "${message.text}"` : `  ${Line.write(structure, census.ordered)}`));
+  return [[kind, steps.length, written.join("\n") + "\n", steps[3].edge, steps[4].structure.size],
+    ["chain", 8, text, { number: 2, file: "pairs.tvp", line: 28, source: "L3", target: "L4", call: "y_is_y_n()",
+      text: "pairs.tvp:28  L3 y_is_y_n ( ) L4" }, 3]];
+});
+test("the edges of docs/TUTORIAL.md are read", () => {
+  const { kind, edges } = Explanation.read(bytesOf(block("edge 0  examples")));
+  return [[kind, edges.map(({ number, line, source, call, target, messages }) => [number, line, source, call, target, messages])],
+    ["edges", [[0, 9, "L1", "Copy_Var(y, x)", "L2", ["dangling pointer x"]],
+      [1, 10, "L2", "Get_Next_L(y, y)", "L3", ["null dereference of y", "dangling pointer y"]],
+      [2, 11, "L3", "uninterpreted()", "L2", []], [3, 12, "L3", "uninterpreted()", "L4", []]]]];
+});
+test("the losses of docs/TUTORIAL.md are read, and `nothing is lost`", () => {
+  const { kind, losses } = Explanation.read(bytesOf(block("node L2 lists nothing"))), [first, , , last] = losses;
+  const none = Explanation.read(bytesOf("nothing is lost\n"));
+  return [[kind, losses.length, first.node, last.edge, last.lost, last.listed, last.first, last.head.source, none.kind, none.losses],
+    ["losses", 4, "L2", 0, 1, 1, 0, "L1", "losses", []]];
+});
+test("initial structures that are lost are read", () => [
+  Explanation.read(bytesOf("initial 0 has no opening, by the declaration of r[n,x]\ninitial 1 has no opening, by rule 3\n"
+    + "initial 2 has no opening, by declarations together\n")).losses.map(({ initial }) => initial), [0, 1, 2]]);
+test("the line of docs/TUTORIAL.md is the page's line of that structure", async () => {
+  const report = await Report.read(bytesIn("examples/null_dereference/report"));
+  return [`0  ${Line.write(report.structure(report.place("L2", 0)), report.census.ordered)}\n`, block("0  (#0&r[n,x])")];
+});
+test("what `show` writes is read", () => {
+  const text = "node L0 structures 0\nnode L1 structures 2\n0  (x&t?)-n->(#1)  (#1)-n?->((t))  ((t))  b?\n1\nnode L2 structures 1\n0  (x)-n->(x)\n";
+  const listing = new ShownListing(Explanation.read(bytesOf(text)));
+  return [[...listing.nodes.values()].map(({ name, count }) => `${name} ${count}`).concat(
+    listing.places.map((_, place) => Line.write(listing.structure(place), listing.census.ordered))),
+    ["L0 0", "L1 2", "L2 1", "(x&t?)-n->(#1)  (#1)-n?->((t))  ((t))  b?", "", "(x)-n->(x)"]];
+});
+test("stages are lines that are kept", () => [Explanation.read(bytesOf("stage focus 0\nstage coerce 0\n")).stages, ["focus 0", "coerce 0"]]);
+test("the replays of the examples are read", () => {
+  const of = name => Replay.read(bytesIn(`examples/replayed_runs/${name}.replay`)).states;
+  return [[of("reverse").length, of("reverse")[0].initial, of("reverse")[3].listed, of("call").at(-1).broken, of("silent").at(-1).listed,
+    Replay.read(bytesOf("stuck: step 2 edge\n")).stuck],
+    [23, { index: 0, of: [0, 1, 1] }, { index: 4, of: [2, 1, 0] }, ["rules broken 7"], null, "stuck: step 2 edge"]];
+});
+
+/* ---- programs ---- */
+test("edges of a program, with captions, messages and lines", () => [
+  programOf().edges.map(({ source, target, call, caption, messages, file, line }) => [source, target, call, caption, messages, file, line]),
+  [["L1", "L2", "Get(x, z)", "x = z->n", ["null z"], "p.tvp", 17], ["L2", "7", "Other()", "Other()", [], "p.tvp", 18]]]);
+test("predicates of a program: sets, foreach, definitions", () => [
+  [...programOf().predicates.values()].map(({ name, arity, isDefined, isUnique, isClosure, holds }) =>
+    [name, arity, isDefined ? "defined" : "core", isUnique ? "unique" : "", isClosure ? "closure" : "",
+      holds.join()].join(" ").trim()), [
+    "x 1 core unique", "r[n,x] 1 defined", "z 1 core unique", "r[n,z] 1 defined", "n 2 core", "left 2 core",
+    "right 2 core", "down 2 defined   left,right", "t[n] 2 defined  closure n", "o 0 defined"]]);
+test("an action with parameters put in", () => {
+  const program = programOf(), { updates, messages } = program.effect(program.edges[0]);
+  return [[updates.map(({ name, variables }) => [name, variables]), messages], [[["x", ["v"]], ["r[n,x]", ["v"]], ["r[n,z]", ["v"]]],
+    [{ kind: "!", of: { kind: "E", variables: ["v"], of: { kind: "atom", name: "z", args: ["v"] } } }]]];
+});
+test("edges of a source program are those of the compiler", () => {
+  const program = Program.readSource({ path: "p.src",
+    text: "vars {x, y} fields {n}\ny = x while (y != null) {\nif (*) { y = y->n } else { } } x->n = null" });
+  return [program.edges.map(({ source, call, target, line }) => `${source} ${call} ${target} ${line}`),
+    ["S0 y = x S1 2", "S1 y != null S2 2", "S1 y == null S4 2", "S2 * S3 3", "S2 * S1 3", "S3 y = y->n S1 3", "S4 x->n = null Exit 3"]];
+});
+test("a message of a source program", () => {
+  const { edges } = Program.readSource({ path: "p.src", text: "vars {x, y} fields {n} y = y->n x->n = y" });
+  return [edges.map(({ messages }) => messages), [["null dereference of y"], ["null dereference of x"]]];
+});
+test("an include that wasn't given, one by its path, a fault in one", async () => {
+  const file = { path: "a/p.tvp", text: "%p x(v)\n#include \"../b/q.tvp\"\n%%\n%%\nL0 f() L1" };
+  const other = { path: "c/q.tvp", text: "%p other(v)" }, right = { path: "b/q.tvp", text: "%p right(v)" };
+  const names = files => [...Program.read(file, files).predicates.keys()];
+  const wrong = { path: "b/q.tvp", text: "// one\n%p right(" };
+  let told = "";
+  try { Program.read(file, [wrong]); } catch (fault) { told = Program.told(fault, file, [wrong]); }
+  return [[names([other, right]), names([other]), Program.read(file).missing, told],
+    [["x", "right"], ["x", "other"], ["../b/q.tvp"], "a/p.tvp, line 3, column 1: expected `,` or `)`, found `%%`"]];
+});
+
+/* ---- what belongs together ---- */
+const report = async example => Report.read(bytesIn(`examples/${example}/report`));
+const INCLUDED = ["sll/preds.tvp", "sll/actions.tvp", "sorting/preds.tvp", "sorting/actions.tvp"].map(name =>
+  ({ path: `examples/${name}`, text: textIn(`examples/${name}`) }));
+const exampleProgram = (name, change = text => text) => {
+  const source = existsSync(join(ROOT, `examples/${name}/program.src`)), path = `examples/${name}/program.${source ? "src" : "tvp"}`;
+  const file = { path, text: change(textIn(path)) };
+  return source ? Program.readSource(file) : Program.read(file, INCLUDED);
+};
+test("a program that doesn't fit is refused with the first thing that differs", async () => {
+  const list = await report("list_reverse"), loop = await report("null_dereference"), tree = await report("tree_insert");
+  return [[firstDifference(exampleProgram("tree_insert"), list), firstDifference(exampleProgram("source_reverse"), loop),
+    firstDifference(exampleProgram("null_dereference", text => text.replace("Get_Next_L(y, y)", "Get_Next_L(y, x)")), loop),
+    firstDifference(exampleProgram("tree_insert", text => text.replace("{x, y, t, e}", "{x, y, t}")), tree),
+    firstDifference(exampleProgram("null_dereference", text => text.replace("L3 uninterpreted()", "L3 uninterpreted() L1 L3 uninterpreted()")), loop),
+    firstDifference(exampleProgram("null_dereference", text => text.replace(/L3 uninterpreted\(\)\s+L4/, "")), loop)], [
+    "the report has node L4 (line 266) where the program has node L12 (examples/tree_insert/program.tvp, line 98)",
+    "the report has node L1 (line 2) where the program has node S0 (examples/source_reverse/program.src, line 3)",
+    "edge 1 (examples/null_dereference/program.tvp, line 10) has the messages “null dereference of x”, “dangling pointer x”, and the report “null dereference of y” there (line 243)",
+    "the program doesn't declare e", "", "the report has node L4 (line 169), and the program no further node"]];
+});
+test("what a file is", () => [
+  ["tvla report 2", "/* a */ vars {x}", "%n = {} %p = {}", "// only\n", "%p x(v) %% %% L f() L", "#include \"a.tvp\"\n", "initial 0", "state 0 node L",
+    "step 0", "accepted", "# Title\n\nwords", "{\"a\": 1}", "", "stage focus"].map(kindOf),
+  ["report", "source", "structures", "included", "program", "included", "explanation", "replay", "trace", "verdict", "", "", "", "explanation"]]);
+test("of a folder what is known is taken, and what isn't is told", async () => {
+  const given = new Given(), file = (path, text) => new GivenFile(path, typeof text === "string" ? bytesOf(text) : text);
+  const of = name => `examples/list_reverse/${name}`;
+  await given.add([...["README.md", "report", "program.tvp", "initial.tvs"].map(name => file(of(name), bytesIn(of(name)))),
+    ...INCLUDED.map(({ path, text }) => file(path, text)), file("only.tvp", "// nothing\n"), file("utf16", Uint8Array.of(255, 254, 65, 0)),
+    file("bom", "\ufefftvla report 2"), file("bad.tvs", "%n = {u} %p = { x = {w} }")], () => {});
+  given.choose(program => firstDifference(program, given.reports[0].listing));
+  return [[given.problems, given.program.edges.length, given.structures.map(({ listing }) => listing.places.length), given.reports.length],
+    [["examples/list_reverse/README.md: begins as no text that the page knows: `# Reversal in place`.",
+      "utf16: is in UTF-16, as `>` of PowerShell writes it: write it in ASCII, by `| Out-File -Encoding ascii`.",
+      "bom: begins with a byte order mark, which no text of tvla has.",
+      "bad.tvs, line 1, column 22: expected an individual that `%n` lists, found `w`"], 8, [1], 1]];
+});
+test("links", () => [["#L2/3", "#L2", "#?x%2C%20y", "#%E0%A4%A", "#a/b/c", ""].map(hash => Links.read(hash)),
+  [{ node: "L2", index: 3 }, { node: "L2", index: 0 }, { query: "x, y" }, null, null, null]]);
+
+/* ---- roles, layout, searches, words ---- */
+test("roles are guessed without a program", async () =>
+  [(await Promise.all([LIST, TREE, DOUBLE].map(text => shown(HEAD + text)))).map(({ roles }) => roles.all.map(({ kind, name }) => `${kind} ${name}`)), [
+    ["pointer x", "pointer y", "field n", "derived t[n]", "flag b"],
+    ["pointer x", "pointer y", "field left", "field right"],
+    ["pointer x", "field f", "field b"]]]);
+test("searches", async () => {
+  const { structures, roles } = await shown(HEAD + LIST);
+  const queries = ["x y", "y", "x, y", "no y", "y?", "!y x", "b", "b?", "n?", "x n", "x n?", "sm", "x and y"];
+  return [queries.map(query => structures.flatMap((structure, i) => Search.compile(query, roles)(structure) ? [i] : [])),
+    [[], [0], [0], [1], [2], [0, 1, 2], [1], [2], [0], [0, 1, 2], [], [0], []]];
+});
+test("a search for an unknown predicate says so", async () => {
+  const { roles } = await shown(HEAD + LIST);
+  try { return [Search.compile("q", roles), ""]; } catch (fault) { return [fault.message, "no predicate `q` in this report"]; }
+});
+test("a structure in words", async () => {
+  const { structures, roles } = await shown(HEAD + LIST);
+  return [structures.map(structure => structureWords(structure, roles)), [
+    "3 cells, of which i0 is a summary. x points to i2. y points to i1. From i0 n may lead to i0. From i1 n may lead to i0. From i2 n leads to i1.",
+    "2 cells. x points to i0. y points nowhere. From i0 n leads to i1. b is true.",
+    "2 cells. x points to i1. y may point to i0. From i1 n leads to i0. b may be true."]];
+});
+test("a structure's SVG stands alone, DOT and TikZ", async () => {
+  const { structures, roles } = await shown(HEAD + LIST), drawing = new Drawing(structures[0], roles);
+  const file = svgFile([{ frame: drawing.frame, title: "L/0", trees: drawingTrees(drawing) }]);
+  const dot = dotText(structures[0], roles, "L/0"), tikz = tikzText(drawing, "L/0");
+  return [[/var\(|max-width|99999|system-ui/.test(file), /<circle[^>]*\/>|<circle/.test(file), (file.match(/<circle/g) ?? []).length,
+    dot.includes("c2 -> c1 [label=\"n\"];"), dot.includes("c0 -> c0 [label=\"n\", style=dashed];"), dot.includes("c0 [label=\"i0\", peripheries=2];"),
+    (tikz.match(/\\node\[draw/g) ?? []).length, tikz.includes("double")],
+    [false, true, 4, true, true, true, 3, true]];
+});
+
+/* ---- drawings ---- */
+test("lists run from left to right, and x stays at its place", async () => {
+  const { structures, roles } = await shown(HEAD + LIST), plan = new Plan(structures, roles);
+  const drawings = structures.map(structure => new Drawing(structure, roles, { plan }));
+  const heads = [2, 0, 1].map((u, i) => drawings[i].centres[u]), next = [1, 1, 0].map((u, i) => drawings[i].centres[u]);
+  return [[new Set(heads.map(({ x, y }) => `${x} ${y}`)).size, heads.every(({ x, y }, i) => next[i].x > x + 40 && next[i].y === y)], [1, true]];
+});
+test("trees run from top to bottom, left in front of right", async () => {
+  const { structures, roles } = await shown(HEAD + TREE), { centres } = new Drawing(structures[0], roles);
+  return [[centres[3].y < centres[1].y, centres[1].y === centres[2].y, centres[1].y < centres[0].y, centres[1].x < centres[2].x],
+    [true, true, true, true]];
+});
+test("drawings: circles, double circles, dashed arrows", async () => {
+  const { structures, roles } = await shown(HEAD + LIST);
+  return [structures.map(structure => new Drawing(structure, roles)).map(({ cells, arrows, texts }) =>
+    [cells.length, cells.filter(({ isSummary }) => isSummary).length, arrows.length, arrows.filter(({ isMaybe }) => isMaybe).length,
+      texts.filter(({ kind }) => kind === "field").length]),
+  [[3, 1, 5, 2, 3], [2, 0, 2, 0, 1], [2, 0, 3, 1, 1]]]; // arrows: those of n and those of the pointers' names
+});
+test("the counter of collisions counts", () => {
+  const label = (left, top) => ({ left, right: left + 20, top, bottom: top + 12 }), cell = (u, x, y) => ({ u, x, y, rim: 20 });
+  const straight = (x, y, to, ends) => ({ points: [{ x, y }, { x, y }, { x: to, y }, { x: to, y }], ends });
+  return [collisions({ cells: [cell(0, 0, 0), cell(1, 100, 0), cell(2, 200, 0), cell(3, 210, 0)], texts: [label(300, 0), label(310, 6), label(0, 0), label(140, -6)],
+    arrows: [straight(20, 0, 180, [0, 2])] }), { labels: 1, labelsOnCells: 1, arrowsOnCells: 1, arrowsOnLabels: 1, cells: 1 }];
+});
+/** How many drawings of a report have a collision: all with places that the structures of a node have in common, some by themselves. */
+const colliding = (report, roles) => {
+  let count = 0;
+  for (const { first, count: size } of report.nodes.values()) {
+    const structures = Array.from({ length: size }, (_, i) => report.structure(first + i));
+    const plan = new Plan(structures.filter((_, i) => i % Math.ceil(size / 60) === 0), roles);
+    structures.forEach((structure, i) => {
+      for (const options of i % 8 ? [{ plan }] : [{ plan }, {}]) if (sum(collisions(new Drawing(structure, roles, options)))) count++;
+    });
+  }
+  return count;
+};
+for (const [size, marks] of [[20, false], [40, true], [100, true]]) test(`no label and no arrow collides: a chain of ${size} cells`, async () => {
+  const cells = Array.from({ length: size }, (_, i) => `i${i}`), odd = marks ? `q = {${cells.filter((_, i) => i % 2)}}` : "";
+  const { structures, roles } = await shown(`${HEAD}node L structures 1 %n = {${cells}} %p = { x = {i0} ${odd} y = {i${size - 1}}
+    n = {${cells.slice(1).map((cell, i) => `i${i}->${cell}`)}} } end`);
+  const drawn = [true, false].map(isFolded => new Drawing(structures[0], Object.assign(roles, { isFolded })));
+  return [drawn.map(drawing => [drawing.cells.length, sum(collisions(drawing)), drawing.width < 1300]), [[marks ? size : 3, 0, true], [size, 0, true]]];
+});
+for (const name of ["hash", "rotate", "dll"]) test(`no label and no arrow collides: structures of ${name}`, async () => {
+  const report = await Report.read(bytesIn(`view/test/cases/${name}.report`)), structures = report.places.map((_, i) => report.structure(i));
+  return [colliding(report, new Roles([report.census], null, structures)), 0];
+});
+
+/* ---- runs: what maps tell ---- */
+const mapped = async name => {
+  const path = name === "null_dereference" ? "view/src/example.report" : `view/test/cases/${name}.maps`;
+  const report = await Report.read(bytesIn(path)), program = exampleProgram(name);
+  return { report, program, runs: new Runs(report, program.edges), roles: new Roles([report.census], program, [report.structure(0)]) };
+};
+test("a shortest chain to a message, by the maps of check: y = x and twice y = y->n with its way back", async () => {
+  const { report, program, runs } = await mapped("null_dereference"), { place, value } = runs.raising(program, report.messages[0]);
+  return [[value, runs.chain(place).map(({ edge }) => edge), report.places[place].name, report.structure(place).pairs("y").length,
+    report.structure(place).cells.some(u => report.structure(place).value("y", u))], [Kleene.YES, [0, 1, 2, 1, 2], "L2", 0, false]];
+});
+test("each structure of the loop has a chain, and each step of it is a map", async () => {
+  const { report, runs } = await mapped("list_traverse"), chains = report.places.map((_, place) => runs.chain(place));
+  const isMap = ({ edge, from, result, to, of }) => report.maps.some(map => !map.isInitial && map.to === report.places[to].index
+    && JSON.stringify([map.item, map.of]) === JSON.stringify([[edge, report.places[from].index, result], of]));
+  return [[chains.every(chain => chain?.every(isMap)), Math.max(...chains.map(chain => chain.length))], [true, 8]];
+});
+test("from which cells those of the next structure come: y moves on, and its last cell joins those behind", async () => {
+  const { report, program } = await mapped("list_traverse"), edge = program.edges[2];
+  const general = "%n = {i0, i1, i2, i3} %p = { x = {i3} y = {i2} n = {i0->i0:1/2, i0->i2:1/2, i1->i1:1/2, i2->i1:1/2, i3->i0:1/2} t[n] = {i0->i0:1/2, "
+    + "i0->i1, i0->i2, i1->i1:1/2, i2->i1, i2->i2, i3->i0, i3->i1, i3->i2, i3->i3} r[n,x] = {i0, i1, i2, i3} r[n,y] = {i1, i2} sm = {i0:1/2, i1:1/2} }";
+  const structure = (await read(`${HEAD}node L3 structures 1 ${general} end`)).structure(0);
+  return [origins(program, edge, structure, structure), [[0, 2], [1], [1], [3]]]; // y's next cell was one of those ahead
+});
+test("a new cell, and a freed one", async () => {
+  const program = exampleProgram("list_insert"), malloc = program.edges.find(({ call }) => call.startsWith("Malloc"));
+  const { structures } = await shown(`${HEAD}node L structures 2 %n = {a} %p = { x = {a} t[n] = {a->a} r[n,x] = {a} }
+    %n = {b, c} %p = { x = {c} ${/\((\w+)\)/.exec(malloc.call)[1]} = {b} t[n] = {b->b, c->c} r[n,x] = {c} r[n,${/\((\w+)\)/.exec(malloc.call)[1]}] = {b} } end`);
+  return [origins(program, malloc, ...structures), [[1], [0]]];
+});
+test("a film keeps colours along the maps, and says what changed", async () => {
+  const { report, program, runs, roles } = await mapped("null_dereference"), page = { runs, report, edgeWords: number => `edge ${number}` };
+  const { place } = runs.raising(program, report.messages[0]), frames = runFrames(page, place);
+  follow(frames, program, program.edges, roles);
+  const colourOf = (frame, name) => frame.structure.cells.filter(u => frame.structure.value(name, u)).map(u => frame.colours[u])[0];
+  return [[frames.length, new Set(frames.map(frame => String(colourOf(frame, "x")))).size, frames.every(({ colours }) => colours.every(list => list.length > 0)),
+    frames[1].changes.words.length, /^y: nowhere → i\d$/.test(frames[1].changes.words[0])], [6, 1, true, 1, true]];
+});
+
+/* ---- each example ---- */
+for (const name of readdirSync(join(ROOT, "examples"))) {
+  const path = ["report", "joined"].map(file => `examples/${name}/${file}`).find(path => existsSync(join(ROOT, path)));
+  if (!path) continue;
+  test(`example ${name}: written back byte for byte, the program fits, lines tell structures apart, known arrows lead forwards, nothing collides`, async () => {
+    const text = textIn(path), report = await read(text), program = exampleProgram(name);
+    const structures = report.places.map((_, place) => report.structure(place)), roles = new Roles([report.census], program, structures);
+    const lines = structures.map((structure, place) => `${report.places[place].name}${Line.write(structure, roles.all).replace(/^(?=.)/, "  ")}`);
+    const readBack = lines.filter((line, place) => {
+      const reader = new LineReader(line, report.places[place].name.length, line.length), again = reader.structure();
+      return Line.write(again, reader.census.ordered) !== Line.write(structures[place], reader.census.ordered);
+    });
+    const guessed = report.census.ordered.map(fact => fact.name), declared = [...program.predicates.keys()].filter(name => guessed.includes(name));
+    return [[report.write() === text, firstDifference(program, report), lines.length - new Set(lines).size, readBack, guessed,
+      structures.filter(structure => leadsBack(structure, roles)).length, colliding(report, roles)], [true, "", 0, [], declared, 0, 0]];
+  });
+}
+/** Whether a known arrow of a forward field that isn't on a cycle leads backwards. */
+const leadsBack = (structure, roles) => {
+  const { ranks } = new Layout(structure, roles);
+  const next = structure.cells.map(u => structure.cells.filter(v => u !== v
+    && roles.forward.some(({ name }) => structure.value(name, u, v) === Kleene.YES)));
+  const reached = (u, seen = new Set()) => {
+    for (const v of next[u]) if (!seen.has(v)) reached(v, seen.add(v));
+    return seen;
+  };
+  return next.some((to, u) => to.some(v => ranks[u] >= ranks[v] && !reached(v).has(u)));
+};
+
+/* ---- what the second program writes, where it is built (or where TVLA_EXPLAIN names it) ---- */
+const explain = process.env.TVLA_EXPLAIN ?? join(ROOT, "crates/tvla_explain/out/tvla_explain");
+if (existsSync(explain)) test("`show` writes of each example what the page does", async () => {
+  const differ = [];
+  for (const name of readdirSync(join(ROOT, "examples"))) {
+    const folder = join(ROOT, "examples", name), path = ["report", "joined"].map(file => join(folder, file)).find(existsSync);
+    if (!path || !existsSync(join(folder, "program.tvp"))) continue;
+    const written = execFileSync(explain, ["show", join(folder, "program.tvp"), path], { encoding: "utf8", maxBuffer: 1e8 });
+    const report = await Report.read(new Uint8Array(readFileSync(path))), lines = [...report.nodes.values()].flatMap(node =>
+      [`node ${node.name} structures ${node.count}`, ...Array.from({ length: node.count }, (_, i) =>
+        [i, ...[Line.write(report.structure(node.first + i), report.census.ordered)].filter(line => line)].join("  "))]);
+    if (written !== lines.join("\n") + "\n") differ.push(name);
+  }
+  return [differ, []];
+});
+
+let failed = 0;
+for (const [name, act] of TESTS) {
+  let told;
+  try {
+    const [found, expected] = (await act()).map(value => JSON.stringify(value, null, 1));
+    told = found === expected ? "" : `found ${found}\nexpected ${expected}`;
+  } catch (fault) {
+    told = fault.stack ?? String(fault);
+  }
+  if (told) {
+    failed++;
+    console.log(`FAIL ${name}: ${told}`);
+  }
+}
+console.log(`${TESTS.length - failed} passed, ${failed} failed`);
+process.exitCode = failed ? 1 : 0;
