@@ -120,8 +120,8 @@ export class Given {
         }
         refused.push(`${file.path} isn't taken, since it doesn't fit: ${difference}.`);
       } catch (fault) {
-        if (!(fault instanceof Fault)) throw fault;
-        refused.push(file.kind === "source" ? fault.told(file.path, file.bytes) : Program.told(fault, file, this.files));
+        if (!(fault instanceof Fault)) refused.push(`${file.path}: ${fault}`);
+        else refused.push(file.kind === "source" ? fault.told(file.path, file.bytes) : Program.told(fault, file, this.files));
       }
     }
     this.problems.push(...refused);

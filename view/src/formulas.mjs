@@ -29,7 +29,8 @@ export class FormulaReader {
   }
   chain(marks, part) {
     let left = part();
-    while (marks.includes(this.cursor.kind)) {
+    for (let count = 2; marks.includes(this.cursor.kind); count++) {
+      if (count > HIGHEST) this.cursor.fault(`at most ${HIGHEST} constructs that are open`);
       const kind = this.cursor.take(this.cursor.kind);
       left = { kind, left, right: part() };
     }
@@ -45,6 +46,7 @@ export class FormulaReader {
         break;
       }
       parts.push(this.chain(["|"], () => this.conjunction()));
+      if (parts.length > HIGHEST) cursor.fault(`at most ${HIGHEST} constructs that are open`);
     }
     return parts.reduceRight((right, left) => ({ kind: "->", left, right }));
   }

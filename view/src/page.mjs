@@ -25,6 +25,7 @@ const EMPTY = "No structure is listed here: no run comes to this node – or an 
 const PLANNED = 60; // structures of a node from which places are taken
 const LARGEST = 60; // cells of a structure that has its places in common with others
 const MOST_VALUED = 3000; // structures of which a message's formula is valued
+const MOST_BOXES = 512; // predicates that can be switched on and off: programs have no more
 const SAMPLE = 300; // structures from which it is guessed which field is the inverse of another
 
 export const Page = {
@@ -93,6 +94,8 @@ export const Page = {
       if (difference) given.problems.push(`The chain isn't shown with this program, since it doesn't fit: ${difference}.`);
       films.push({ title: "Chain of tvla-explain", frames: chainFrames(chain, !difference) });
     }
+    const stages = given.explanations.get("stages")?.explanation.stages;
+    if (stages) films.push({ title: "Stages of a step", frames: stages.map(title => ({ title })) });
     if (given.replay) films.push({ title: `Replay: ${given.replay.file.path}`, frames: replayFrames(given.replay.replay, this) });
     return films;
   },
@@ -233,7 +236,7 @@ export const Page = {
     };
     const shown = this.roles.of("field", "derived", "pointer", "property", "flag");
     byId("predicates").replaceChildren(byId("predicates").firstElementChild,
-      ...shown.map(role => box(role.name, role, "isShown")),
+      ...shown.slice(0, MOST_BOXES).map(role => box(role.name, role, "isShown")),
       box("unknown arrows that a definition excludes", this.roles, "isWhole"), box("equal cells of a chain as one", this.roles, "isFolded"));
   },
   /** Lists structures; `found` tells of each title which individuals stand out. */

@@ -4,6 +4,9 @@ import { FormulaReader } from "./formulas.mjs";
 /* ======== Programs: predicates, actions and control edges of a TVP text, or of a source program ======== */
 const PROPERTIES = new Set("unique function invfunction abs nonabs transitive reflexive symmetric box pointer".split(" "));
 
+const MOST_ITEMS = 65536;
+const LONGEST_TEXT = 4194304;
+
 export class Program {
   edges = []; // with source, target, call, caption, messages, and the file and line in which they stand
   predicates = new Map(); // by name: arity, isDefined, isUnique, isClosure, holds, rests
@@ -52,6 +55,7 @@ export class Program {
   }
   /** A fault of the text with its includes, as a line. */
   static told(fault, file, files) {
+    if (fault.at === 0) return fault.told(file.path, bytesOf(file.text));
     const lines = new Includes(files, []).lines(file, 0), bytes = bytesOf(lines.map(({ text }) => text).join("\n"));
     const front = new TextDecoder("latin1").decode(bytes.subarray(0, fault.at)).split("\n");
     const at = lines[front.length - 1] ?? { file: file.path, line: front.length };
@@ -61,12 +65,14 @@ export class Program {
 
 /** Puts in included files, by their paths, or by their last names where no path fits. */
 export class Includes {
-  constructor(files, missing) { Object.assign(this, { files, missing }); }
+  constructor(files, missing) { Object.assign(this, { files, missing, total: 0, found: new Map() }); }
   /** The lines of a file with what it includes, each with its file and number. */
   lines(file, depth, outer = [file]) {
     const lines = [];
     let isOpen = false; // a block comment
     file.text.split("\n").forEach((text, i) => {
+      this.total += text.length + 1;
+      if (this.total > LONGEST_TEXT) throw new Fault(0, `at most ${LONGEST_TEXT} bytes with what is included`, "more");
       const include = isOpen ? null : /^[ \t]*#[ \t]*include[ \t]*"([^"]+)"[ \t]*\r?$/.exec(text);
       if (!include) lines.push({ text, file: file.path, line: i + 1 });
       else for (const inner of this.find(file.path, include[1]).filter(inner => depth < 16 && !outer.includes(inner)))
@@ -83,6 +89,11 @@ export class Includes {
     return isOpen;
   }
   find(from, name) {
+    const key = `${from}\n${name}`;
+    if (!this.found.has(key)) this.found.set(key, this.search(from, name));
+    return this.found.get(key);
+  }
+  search(from, name) {
     const path = Includes.joined(from, name), last = name.split("/").pop();
     const exact = this.files.filter(file => Includes.joined("", file.path) === path);
     const found = exact.length ? exact : this.files.filter(file => file.path.split("/").pop() === last);
@@ -103,7 +114,7 @@ class ProgramReader {
   constructor(program, bytes) {
     const cursor = new Cursor(bytes);
     Object.assign(this, { program, cursor, formulas: new FormulaReader(cursor), sets: new Map(), actions: new Map(),
-      effects: new Map(), silent: 0, seen: { at: 0, line: 0 } });
+      effects: new Map(), silent: 0, items: 0, seen: { at: 0, line: 0 } });
   }
   read() {
     const cursor = this.cursor;
@@ -138,6 +149,7 @@ class ProgramReader {
     const members = this.set(scope), at = cursor.start, isEmpty = !members.length;
     this.silent += isEmpty; // the braces are passed once
     for (const member of isEmpty ? [variable] : members) {
+      if (++this.items > MOST_ITEMS) cursor.fault(`at most ${MOST_ITEMS} members that are gone through`);
       cursor.goTo(at);
       cursor.take(")");
       cursor.take("{");
@@ -258,6 +270,7 @@ class ProgramReader {
   readEffect(action, scope) {
     const { cursor, formulas } = this, effect = { messages: [], updates: [], isNew: false };
     if (!action) return effect;
+    this.items = 0;
     cursor.goTo(action.body);
     cursor.take("{");
     while (cursor.kind !== "}") {

@@ -218,6 +218,17 @@ const TESTS = {
     return [[await texts("#notice"), await texts(".graph a.node > text"), (await texts("#messages h2"))[0], (await texts("#messages button"))[0]],
       [[""], ["L1 · 1", "L2 · 9", "L3 · 8", "L4 · 8"], "Messages: 1", "Why?"]];
   },
+  "a page of ./tvla-page shows its files at once": async () => {
+    await load("sent.html");
+    const found = [await texts(".graph a.node > text"), await texts("#text h2"), await texts("#notice"), (await texts("#messages h2"))[0]];
+    await load("index.html");
+    return [found, [["L1 · 1", "L2 · 9", "L3 · 8", "L4 · 8"], ["examples/null_dereference/program.tvp"], [""], "Messages: 1"]];
+  },
+  "stages are told, one after the other": async () => {
+    await call("forget");
+    await call("paste", "stage focus 0\nstage coerce 0\n");
+    return [[await texts("#film h2"), await texts("#film li button")], [["Step 0 of 1: focus 0"], ["focus 0", "coerce 0"]]];
+  },
   "2,000 edges are a table with neighbours, 16,384 are shown in under two seconds": async () => {
     await call("forget");
     const of = (nodes, edges) => `%p b()\n%%\n%action f(x) { %t "go " + x }\n%%\n${Array.from({ length: edges }, (_, i) =>
@@ -247,7 +258,13 @@ const TESTS = {
     [await call("refuses"), { connect: "connect-src", image: "img-src", hasRun: false }],
 };
 
-const post = total => fetch(`http://127.0.0.1:${words.get("answers")}/`, { method: "POST", mode: "no-cors", body: total });
+/** Puts another page into the frame. */
+const load = page => new Promise(resolve => {
+  ready = () => setTimeout(resolve, 300);
+  frame.src = page;
+});
+let ready = () => run();
+const post = total => fetch(`http://127.0.0.1:${words.get("answers")}/`, { method: "POST", mode: "no-cors", body: total }).catch(() => {});
 const run = async () => {
   let passed = 0;
   const lines = [];
@@ -270,18 +287,8 @@ const run = async () => {
   document.getElementById("total").textContent = lines.at(-1);
   if (words.has("answers")) await post(lines.join("\n"));
 };
-const shoot = async () => {
-  document.body.className = "shot";
-  await call("theme", words.get("theme") || "light");
-  await call("choose", words.get("why") ? mapped(words.get("shot")) : example(words.get("shot")), words.get("at") ? `#${words.get("at")}` : "");
-  if (words.get("why")) {
-    await call("click", "#messages button");
-    for (let i = 0; i < 3; i++) await call("press", "ArrowRight", "#film");
-  }
-  if (words.has("answers")) await post("shown");
-};
 addEventListener("message", ({ data }) => {
-  if (data.id === "ready") words.has("shot") ? shoot() : run();
+  if (data.id === "ready") ready();
   else if (waiting.has(data.id))
     "fault" in data ? waiting.get(data.id)[1](data.fault) : waiting.get(data.id)[0](data.result);
 });

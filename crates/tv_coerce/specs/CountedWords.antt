@@ -5,6 +5,7 @@ use Rattle.tv_kleene.specs.declared.K3.TheVariants.{Yes}
 use Rattle.tv_coerce_members.specs.Members.{MemberForm}
 use Rattle.tv_coerce_members.specs.declared.levels.Step.{Step}
 use Rattle.tv_eval.specs.AssignmentForm.{assignment_of}
+use Rattle.tv_eval.specs.Bound.{bound_structure}
 use Rattle.tv_eval.specs.ScratchForm.{ScratchForm}
 use Rattle.tv_eval.specs.declared.evaluator.Evaluator.{Evaluator}
 use Rattle.tv_eval_laws.specs.Value.{value}
@@ -21,7 +22,7 @@ members_along x = members_in x.trial.now
 
 -- the word has values for some of the structure's individuals, and the evaluator is one for that structure
 pub record IsAlong (x : Along) (e : Evaluator) (word : List K3) : Type 0 where
-  pub structure : e.structure ≡ structure_along x
+  pub structure : bound_structure e ≡ structure_along x
   pub chunk : 64 * x.span.chunk < (structure_along x).size
   pub long : length word ≡ 64
 

@@ -219,11 +219,10 @@ AreLeft trial rest = (done : List ℕ) × (variables_in trial ≡ done ++ (rest 
 
 -- the trial's variables are those before and the last, and the members without variables count so, which
 -- doesn't rule the rules out
-pub record IsBegun (trial : Trial) (before : List ℕ) (places : List (Option ℕ)) (own : K3) : Type 0 where
+pub record IsBegun (trial : Trial) (before : List ℕ) (places : List (Option ℕ)) (k : K3) : Type 0 where
   pub variables : variables_in trial ≡ before ++ trial.last.0 ∷ []
-  pub own : Tells (IsAt (length before) false) trial.structure.now (assignment_of places)
-      (members_in trial) own
-  pub some : own ≢ No
+  pub own : Tells (IsAt (length before) false) trial.structure.now (assignment_of places) (members_in trial) k
+  pub some : k ≢ No
 
 -- where a walk over the variables before the last that are left may begin: what can be tested was, and the
 -- word has how that counts for each individual of the last variable

@@ -9,6 +9,7 @@ use Rattle.tv_embedding_laws.specs.LogicalStructure.{LogicalStructure}
 use Rattle.tv_embedding_laws.specs.Embedding.{IsBelow}
 use Rattle.tv_stable_laws.specs.Stable.{IsHeadMet, IsStableUnder}
 use Rattle.tv_eval.specs.AssignmentForm.{IsAssigned, individual_for}
+use Rattle.tv_eval.specs.Bound.{bound_room, bound_structure}
 use Rattle.tv_eval.specs.declared.evaluator.Evaluator.{Evaluator}
 use Rattle.tv_eval.specs.ScratchForm.{ScratchForm, HasScratchFor}
 use Rattle.tv_model.specs.declared.program.Rule.{Rule}
@@ -83,10 +84,10 @@ IsNeed s a head (Put c) =
 
 -- the trial may be gone through: it is one, the evaluator is one for its structure, and there is room for its
 -- rules
-pub record IsReadyFor (trial : Trial) (e : Evaluator) : Type 0 where
-  pub trial : IsTrial trial
-  pub structure : e.structure ≡ trial.structure.now
-  pub rules : CanCoerce (rules_of trial.closed.now) trial.structure.now e.room
+pub record IsReadyFor (t : Trial) (e : Evaluator) : Type 0 where
+  pub trial : IsTrial t
+  pub structure : bound_structure e ≡ t.structure.now
+  pub rules : CanCoerce (rules_of t.closed.now) t.structure.now (bound_room e)
 
 -- what is asked for was put behind what was noted; or it was passed over where something was noted
 abbrev pub IsAdded : (ask : Ask) → (old new : Queue) → Type 0

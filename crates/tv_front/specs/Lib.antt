@@ -1,3 +1,1 @@
 pub mod Meaning
-pub mod ReadAgain
-pub mod Trees

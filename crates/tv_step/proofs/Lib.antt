@@ -16,7 +16,6 @@ mod Picking
 mod Redefining
 mod Said
 mod Sorting
-mod Steppers
 mod Stepping
 mod Turns
 mod Variables

@@ -16,7 +16,7 @@ ghost use Rattle.tv_step.specs.Steps.{IsCauseOfUpdate};
 ghost use Rattle.tv_step.specs.Allowed.{precondition_values};
 
 use crate::changed::{Parent, Reach, Redefined};
-use crate::coerced::{Ending, coerce_all};
+use crate::coerced::{Ending, push_all};
 use crate::job::Job;
 use crate::setting::Setting;
 use tv_eval::{Assignment, Evaluator, Scratch, eval};
@@ -75,9 +75,9 @@ fn reach_of<'a>(job: &'a Job<'_>) -> Reach<'a>
     Reach::Of(job.action.updates.as_slice(), job.plan.as_slice())
 }
 
-/// Applies the action under picked individuals that pass its precondition. What it gives is coerced, blurred
-/// and put behind the others.
-fn apply_under(
+/// Puts what the action gives under the picked individuals, which pass the precondition, behind the others:
+/// coerced and blurred.
+fn push_given(
     c: &Case,
     picks: &Assignment,
     scratch: &mut Scratch,
@@ -113,7 +113,7 @@ fn apply_under(
             defining: c.job.defining.as_slice(),
         },
     };
-    coerce_all(
+    push_all(
         x,
         Ending::Blurred,
         &c.job.waiting,
@@ -125,8 +125,8 @@ fn apply_under(
     Ok(())
 }
 
-/// Applies the action under the picked individuals, unless its precondition is `No` there.
-fn apply_if_passed(
+/// The same where nothing is told of the precondition: nothing is put where it is `No`.
+fn push_passed(
     c: &Case,
     picks: &Assignment,
     scratch: &mut Scratch,
@@ -145,7 +145,7 @@ fn apply_if_passed(
     if !is_passed(c, picks, scratch) {
         return Ok(());
     }
-    apply_under(c, picks, scratch, out)
+    push_given(c, picks, scratch, out)
 }
 
 /// The values of the precondition for all individuals, put for `v`; `Yes` where there is none.
@@ -168,9 +168,9 @@ fn precondition_row(c: &Case, v: Var, picks: &Assignment, scratch: &mut Scratch)
     }
 }
 
-/// Applies the action with each individual put for the last variable. Only those are tried under which the
+/// The same where each individual is put for the last variable: only those are tried under which the
 /// precondition isn't `No`, which one row of its values tells.
-fn pick_last(
+fn push_last(
     c: &Case,
     v: Var,
     picks: &Assignment,
@@ -193,16 +193,15 @@ fn pick_last(
     let mut from = 0;
     while let Some(u) = row.next_possible(from) {
         here.set(v, u);
-        apply_under(c, &here, scratch, out)?;
+        push_given(c, &here, scratch, out)?;
         from = u + 1;
     }
     Ok(())
 }
 
-/// Applies the action with each list of individuals put for the variables that are left, in lexicographic
-/// order.
+/// The same for each list of individuals that is put for the variables that are left, in lexicographic order.
 #[cycle(picked)]
-fn pick_left(
+fn push_picked(
     c: &Case,
     left: &[Var],
     picks: &Assignment,
@@ -221,14 +220,14 @@ fn pick_left(
     ensures scratch { scratch.new ≡ scratch.old }
 {
     match left {
-        [] => apply_if_passed(c, picks, scratch, out),
-        [v, rest @ ..] => pick_each(c, *v, rest, picks, scratch, out),
+        [] => push_passed(c, picks, scratch, out),
+        [v, rest @ ..] => push_each(c, *v, rest, picks, scratch, out),
     }
 }
 
-/// Applies the action with each individual put for `v`, and each list for the variables that are left.
+/// The same where each individual is put for the variable `v`, and then some for those that are left.
 #[cycle(picked)]
-fn pick_each(
+fn push_each(
     c: &Case,
     v: Var,
     left: &[Var],
@@ -249,18 +248,18 @@ fn pick_each(
     ensures scratch { scratch.new ≡ scratch.old }
 {
     if left.is_empty() {
-        return pick_last(c, v, picks, scratch, out);
+        return push_last(c, v, picks, scratch, out);
     }
     let mut here = *picks;
     for u in 0..c.from.size() {
         here.set(v, u);
-        pick_left(c, left, &here, scratch, out)?;
+        push_picked(c, left, &here, scratch, out)?;
     }
     Ok(())
 }
 
-/// Applies the action to the structure under all that it may pick, and puts what it gives behind the others.
-pub fn apply_action(c: &Case, scratch: &mut Scratch, out: &mut Structures) -> Result<(), StageError>
+/// Puts what the action gives from the structure, under all that it may pick, behind the others.
+pub fn push_steps(c: &Case, scratch: &mut Scratch, out: &mut Structures) -> Result<(), StageError>
     requires case { IsCase c.now scratch.old }
     ensures out { OnOk result (Adds (StepsIn (case_program c.now) (case_mode c.now) (case_action c.now))
         (case_structure c.now) out.old out.new) }
@@ -272,5 +271,5 @@ pub fn apply_action(c: &Case, scratch: &mut Scratch, out: &mut Structures) -> Re
     if !are_few(c.from.size(), picked.len()) {
         return Err(StageError::Splits);
     }
-    pick_left(c, picked, &Assignment::new(), scratch, out)
+    push_picked(c, picked, &Assignment::new(), scratch, out)
 }

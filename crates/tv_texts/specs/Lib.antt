@@ -3,4 +3,3 @@ pub mod Files
 pub mod Agreement
 pub mod Faults
 pub mod Delivery
-pub mod Sources

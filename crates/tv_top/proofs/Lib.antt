@@ -15,6 +15,7 @@ mod Later
 mod Limits
 mod Maps
 mod OneAnswer
+mod OneDifferenced
 mod SameTexts
 mod Sources
 mod Sums

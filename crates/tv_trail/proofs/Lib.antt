@@ -1,10 +1,9 @@
-mod Adding
-mod Aiming
-mod Answering
-mod Ends
-mod Following
-mod Kept
-mod Levelling
 mod Placing
+mod Adding
+mod Kept
 mod Stepping
+mod Aiming
+mod Following
+mod Levelling
 mod Walking
+mod Answering

@@ -2,4 +2,3 @@ pub mod Aims
 pub mod Searched
 pub mod Asked
 pub mod Over
-pub mod Reasons

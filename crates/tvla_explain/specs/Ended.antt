@@ -5,7 +5,7 @@ use Rattle.std.specs.declared.vec.IntoIter.{IntoIter}
 use Rattle.tv_outside.specs.Told.{Held}
 use Rattle.tv_real.specs.Ended.{EndsWithoutMemory, HasWords}
 use Rattle.tv_status.specs.declared.status.Status.{Status}
-use Rattle.tv_explain.specs.Call.{IsEnded}
+use Rattle.tv_explain.specs.Call.{HasDone}
 use Rattle.tv_explain.specs.declared.fault.Ending.{Ending}
 use Rattle.tv_explain.specs.declared.fault.Ending.TheVariants.{As}
 use Rattle.tv_words.specs.Words.{words_of}
@@ -23,6 +23,6 @@ abbrev pub EndsSo : {E : Type 0} → Result (IntoIter (String Global) Global) E 
     → Ending
     → Type 0
 EndsSo args told read_rose steady out_rose err_rose out_old out_new err_old err_new ending =
-    HasWords args (λ words. IsEnded
+    HasWords args (λ words. HasDone
     (words_of words) told read_rose steady out_rose err_rose out_old out_new err_old err_new ending)
     ⊎ LacksMemory err_rose out_old out_new err_old err_new ending

@@ -4,18 +4,17 @@ use Rattle.std.proofs.lemmas.Iterator.Adapters.{YieldsList-from_vec}
 use Rattle.std.proofs.lemmas.Iterator.Consumers.{YieldsList-end, YieldsList-turn}
 use Rattle.std.proofs.lemmas.List.{map-id}
 use Rattle.std.proofs.lemmas.List.Elements.{All-contains}
-use Rattle.tv_model.specs.Program.{program_of}
 use Rattle.tv_join.specs.Keyed.{AreFlags}
 use Rattle.tv_join.specs.Members.{IsIndexed}
 use Rattle.tv_join.specs.State.{IsMet, members_at}
 use Rattle.tv_join.specs.Stepped.{HaveMet, IsPlacedFound}
-use Rattle.tv_work.specs.Task.{task_of}
+use Rattle.tv_join.specs.Task.{form_in, task_of}
 use Rattle.tv_join.proofs.KeyLaws.{flags-fit}
 use Rattle.tv_join.proofs.Meeting.{met-none, met-next, room-none, room-some}
 use Rattle.tv_join.proofs.joins.Joins.meet_all.Goals as goal
 
 pub loop-f-init : goal.loop-f-init
-loop-f-init c = met-none (task_of c.args.x.now.task) c.args.self.now c.requires.kept c.requires.none
+loop-f-init c = met-none (task_of c.args.x.now) c.args.self.now c.requires.kept c.requires.none
 
 pub meet-requires-clause-node : goal.meet-requires-clause-node
 meet-requires-clause-node c =
@@ -23,7 +22,7 @@ meet-requires-clause-node c =
     (YieldsList-from_vec {s = c.into_iter-f-iterator.result} c.args.found.items (search rules) (search rules))
     c.loop-f.yielded c.loop-f.f-iterator c.loop-f.yielded_by c.next.result c.next.new.self c.in-Some.f c.in-Some.is
     c.next.ensures.steps
-    in let placed = All-contains (IsPlacedFound (task_of c.args.x.now.task)) c.args.found.items c.in-Some.f c.requires.placed
+    in let placed = All-contains (IsPlacedFound (task_of c.args.x.now)) c.args.found.items c.in-Some.f c.requires.placed
     (length c.loop-f.yielded, turn.0, sym turn.1)
     in omega (arith, placed.node, c.loop-f.invariant.met.kept.nodes)
 
@@ -33,10 +32,10 @@ meet-requires-clause-flags c =
     (YieldsList-from_vec {s = c.into_iter-f-iterator.result} c.args.found.items (search rules) (search rules))
     c.loop-f.yielded c.loop-f.f-iterator c.loop-f.yielded_by c.next.result c.next.new.self c.in-Some.f c.in-Some.is
     c.next.ensures.steps
-    in let placed = All-contains (IsPlacedFound (task_of c.args.x.now.task)) c.args.found.items c.in-Some.f c.requires.placed
+    in let placed = All-contains (IsPlacedFound (task_of c.args.x.now)) c.args.found.items c.in-Some.f c.requires.placed
     (length c.loop-f.yielded, turn.0, sym turn.1)
     in subst (λ (flags : List Bool). AreFlags flags c.in-Some.f.structure) (sym c.requires.flags)
-    (flags-fit (program_of c.args.x.now.task.program.now) c.in-Some.f.structure placed.plain)
+    (flags-fit (form_in c.args.x.now) c.in-Some.f.structure placed.plain)
 
 pub meet-requires-clause-unmarked : goal.meet-requires-clause-unmarked
 meet-requires-clause-unmarked c =
@@ -44,7 +43,7 @@ meet-requires-clause-unmarked c =
     (YieldsList-from_vec {s = c.into_iter-f-iterator.result} c.args.found.items (search rules) (search rules))
     c.loop-f.yielded c.loop-f.f-iterator c.loop-f.yielded_by c.next.result c.next.new.self c.in-Some.f c.in-Some.is
     c.next.ensures.steps
-    in let placed = All-contains (IsPlacedFound (task_of c.args.x.now.task)) c.args.found.items c.in-Some.f c.requires.placed
+    in let placed = All-contains (IsPlacedFound (task_of c.args.x.now)) c.args.found.items c.in-Some.f c.requires.placed
     (length c.loop-f.yielded, turn.0, sym turn.1)
     in placed.plain.unmarked
 
@@ -55,7 +54,7 @@ meet-requires-clause-indexed c =
 
 pub loop-f-preserved : goal.loop-f-preserved
 loop-f-preserved c =
-    let t = task_of c.args.x.now.task
+    let t = task_of c.args.x.now
     in let turn = YieldsList-turn
     (YieldsList-from_vec {s = c.into_iter-f-iterator.result} c.args.found.items (search rules) (search rules))
     c.loop-f.yielded c.loop-f.f-iterator c.loop-f.yielded_by c.next.result c.next.new.self c.in-Some.f c.in-Some.is
@@ -69,7 +68,7 @@ loop-f-preserved c =
 
 pub returns-then-is_over-clause-cause : goal.returns-then-is_over-clause-cause
 returns-then-is_over-clause-cause c =
-    let t = task_of c.args.x.now.task
+    let t = task_of c.args.x.now
     in let over = subst (λ b. MatchBool b (c.loop-f.self.room ≡ None) ((more : ℕ) × (c.loop-f.self.room ≡ Some more)))
     c.if-is_over.true c.is_over.ensures
     in let all = YieldsList-end
@@ -83,7 +82,7 @@ returns-then-is_over-clause-cause c =
 
 pub returns-clause-met : goal.returns-clause-met
 returns-clause-met c =
-    let t = task_of c.args.x.now.task
+    let t = task_of c.args.x.now
     in let all = YieldsList-end
     (YieldsList-from_vec {s = c.into_iter-f-iterator.result} c.args.found.items (search rules) (search rules))
     c.loop-f.yielded c.loop-f.f-iterator c.loop-f.yielded_by c.next.result c.next.new.self c.in-None.is
@@ -94,4 +93,4 @@ pub returns-clause-within : goal.returns-clause-within
 returns-clause-within c =
     let some = subst (λ b. MatchBool b (c.loop-f.self.room ≡ None) ((more : ℕ) × (c.loop-f.self.room ≡ Some more)))
     c.if-is_over.false c.is_over.ensures
-    in room-some (task_of c.args.x.now.task) c.loop-f.self some.0 c.loop-f.invariant.met.kept some.1
+    in room-some (task_of c.args.x.now) c.loop-f.self some.0 c.loop-f.invariant.met.kept some.1

@@ -1,0 +1,4 @@
+mod Steps
+mod Wired
+mod Drawn
+mod Kept

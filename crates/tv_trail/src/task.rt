@@ -1,0 +1,21 @@
+//! What a search is asked, and what its steps go by.
+
+use std::alloc::Global;
+use tv_model::{Mode, Program};
+use tv_step::Engine;
+use tv_struct::{Numbers, Structure};
+use tv_trail_laws::Goal;
+
+/// A program and a mode with their engine, the initial structures, the goal, and how many structures may be
+/// met; for each node the numbers of the edges that leave it.
+#[derive(Clone, Copy)]
+pub(crate) struct Task<'a, 'b> {
+    pub alloc: Global,
+    pub program: &'a Program,
+    pub engine: &'b Engine<'a>,
+    pub leaving: &'b [Numbers],
+    pub initial: &'a [Structure],
+    pub mode: Mode,
+    pub max: u64,
+    pub goal: Goal<'b>,
+}

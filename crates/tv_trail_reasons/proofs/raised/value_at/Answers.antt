@@ -1,0 +1,16 @@
+use Rattle.std.proofs.Common.{List, ap, subst, ◌∙◌}
+use Rattle.std.specs.Prelude.{slice_get}
+use Rattle.tv_kleene.specs.declared.K3.{K3}
+use Rattle.tv_model.specs.Program.{program_of}
+use Rattle.tv_step.specs.EngineForm.{EngineForm}
+use Rattle.tv_step_laws.specs.Transfer.{AreMessageValues}
+use Rattle.tv_trail_reasons.proofs.raised.value_at.Goals as goal
+
+pub returns-clause-value : goal.returns-clause-value
+returns-clause-value c = (
+  c.in_ok-out.out.messages,
+  subst
+      (λ (e : EngineForm). AreMessageValues (program_of e.program) c.args.edge c.args.s.now c.in_ok-out.out.messages)
+      c.in_ok-engine.ensures c.in_ok-out.ensures.step.values,
+  c.value_of.ensures ∙ ap (λ (vs : List K3). slice_get vs c.args.number) c.as_slice.ensures,
+)

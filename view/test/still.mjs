@@ -1,0 +1,2 @@
+/* ======== For a screenshot: all is read before the page counts as loaded ======== */
+performance.now = () => 0;
