@@ -24,10 +24,9 @@ export const drawnArrows = (structure, roles) => {
 
 /** The names of the variables at a cell, those that surely point to it and those that may. */
 export const pointersAt = (structure, roles, u) => {
-  const shown = roles.of("pointer").filter(({ isShown }) => isShown);
-  return [Kleene.YES, Kleene.MAYBE].map(value => ({ isMaybe: value === Kleene.MAYBE,
-    names: shown.filter(({ name }) => structure.value(name, u) === value).map(({ name }) => structure.told(name, u)) }))
-    .filter(({ names }) => names.length);
+  const found = new Map([[Kleene.YES, []], [Kleene.MAYBE, []]]);
+  for (const { name, isShown } of roles.of("pointer")) if (isShown) found.get(structure.value(name, u))?.push(structure.told(name, u));
+  return [...found].map(([value, names]) => ({ isMaybe: value === Kleene.MAYBE, names })).filter(({ names }) => names.length);
 };
 
 /** What is true of a cell beside variables, in lines of some 16 letters. */

@@ -3,6 +3,7 @@ import { latin } from "./tokens.mjs";
 import { Census } from "./structures.mjs";
 import { LineReader } from "./lines.mjs";
 import { Listing } from "./reports.mjs";
+import { Stages } from "./stages.mjs";
 
 /* ======== Explanations: what tvla-explain wrote ======== */
 
@@ -25,7 +26,7 @@ export class Explanation {
   edges = []; // with their numbers, files, lines and messages
   nodes = []; // with structures
   losses = [];
-  stages = []; // lines of a step's stages, as they are
+  stages = new Stages(); // of a step
   census = new Census();
   /** What the text says; what isn't in the grammar is a `Fault`. */
   static read(bytes) {
@@ -45,7 +46,7 @@ export class Explanation {
       case "losses": return this.loss(line);
       case "edges": return this.edge(line);
       case "show": return this.shown(line);
-      case "stages": return this.stage(line);
+      case "stages": return this.stages.take(line);
       default: line.fault("a line of tvla-explain");
     }
   }
@@ -134,11 +135,6 @@ export class Explanation {
     }
     if (!line.isAtEnd) line.fault("the end of the line");
     this.losses.push(loss);
-  }
-  /** A stage of a step: kept as it stands. */
-  stage(line) {
-    line.take("stage ");
-    this.stages.push(decoded(line.source.slice(line.at, line.end)));
   }
 }
 

@@ -121,7 +121,7 @@ export class Film {
       children.push(element);
     }
     if (node !== undefined && index !== undefined) children.push(link(Links.structure(node, index), `${node}/${index}`));
-    return html("li", {}, ...children);
+    return html("li", frame.isDropped ? { className: "dropped" } : {}, ...children);
   }
   step(by) { if (this.frames[this.at + by]) this.go(this.at + by); }
   go(at) {

@@ -3,6 +3,7 @@ import { Line } from "./lines.mjs";
 import { drawingElement, drawingTrees, structureFile, svgFile } from "./svg.mjs";
 import { dotText, tikzText } from "./texts.mjs";
 import { structureWords } from "./words.mjs";
+import { reachWords } from "./reach.mjs";
 
 /* ======== One structure, large; saving ======== */
 
@@ -42,6 +43,7 @@ export const Large = {
         button("▶", () => this.step(1), { "aria-label": "The next structure" }), ...this.exports(drawing, title, page),
         button("Print", () => print()), button("Close", () => dialog.close())),
       box, html("p", { className: "form", textContent: Line.write(drawing.whole, roles.all) || "no individuals" }), html("p", { textContent: words }),
+      html("p", { className: "reach", textContent: reachWords(drawing.whole, roles) }),
       ...spot.listing === page.report ? page.neighbours(spot.place) : [],
       html("details", {}, html("summary", { textContent: "All values" }), html("pre", { textContent: drawing.whole.write() })));
     box.addEventListener("wheel", event => {

@@ -9,32 +9,40 @@ export class Layout {
   /** `least` has, by variable, the rank that the cell gets at least to which it points first. */
   constructor(structure, roles, { arrows = drawnArrows(structure, roles).arrows, least = new Map() } = {}) {
     Object.assign(this, { structure, roles, arrows, least, size: structure.size });
-    this.pointers = roles.of("pointer", "property").sort((a, b) => (a.kind > b.kind) - (a.kind < b.kind));
-    this.keys = structure.cells.map(u => this.key(u));
+    this.pointers = roles.pointers;
+    this.keys = this.firstPointers();
     this.next = structure.cells.map(u => this.successors(u));
     this.sort();
     this.rank();
     this.slots = this.spread();
     this.components = this.gathered();
   }
-  /** The place of the first variable that points to a cell: lists keep their places. */
-  key(u) {
-    const at = value => this.pointers.findIndex(({ name }) => this.structure.value(name, u) === value);
-    const [yes, maybe] = [at(Kleene.YES), at(Kleene.MAYBE)];
-    return yes >= 0 ? yes : maybe >= 0 ? NO_KEY / 2 + maybe : NO_KEY;
+  /** Of each cell the place of the first variable that points to it, or may: lists keep their places. */
+  firstPointers() {
+    const { structure, pointers } = this, sure = new Array(this.size), maybe = new Array(this.size);
+    let left = this.size;
+    for (let i = 0; i < pointers.length && left; i++) {
+      const values = structure.tables.get(pointers[i].name)?.values ?? [];
+      for (let u = 0; u < values.length; u++) {
+        if (values[u] === Kleene.YES && sure[u] === undefined) {
+          sure[u] = i;
+          left--;
+        } else if (values[u] === Kleene.MAYBE) maybe[u] ??= i;
+      }
+    }
+    return structure.cells.map(u => sure[u] ?? (maybe[u] === undefined ? NO_KEY : NO_KEY / 2 + maybe[u]));
   }
   byKey(cells) { return cells.sort((a, b) => this.keys[a] - this.keys[b] || a - b); }
   /** To which cells forward fields may lead, known ones first; a closure that excludes it decides. */
   successors(u) {
     const { structure, roles } = this, found = [];
-    const closures = roles.of("derived").filter(role => role.isClosure);
     for (const v of structure.cells) {
       const fields = roles.forward
         .filter(role => structure.value(role.name, u, v) && !Roles.excludes(structure, role, u, v));
       const isLedBack = roles.fields
         .some(role => role.isBackward && structure.value(role.name, v, u) === Kleene.YES);
       if (u === v || !fields.length && !isLedBack) continue;
-      const isBack = closures.some(({ name }) => structure.value(name, v, u) && !structure.value(name, u, v));
+      const isBack = roles.closures.some(({ name }) => structure.value(name, v, u) && !structure.value(name, u, v));
       const known = fields.filter(({ name }) => structure.value(name, u, v) === Kleene.YES);
       const sides = (known.length ? known : fields).map(role => roles.forward.indexOf(role));
       const side = sides.reduce((a, b) => a + b, 0) / (sides.length || 1);

@@ -16,6 +16,7 @@ import { ControlGraph, GRAPH_STYLE } from "./graph.mjs";
 import { Search } from "./search.mjs";
 import { Large, save } from "./large.mjs";
 import { chainFrames, replayFrames, runFrames } from "./film.mjs";
+import { stageFrames } from "./stages.mjs";
 import { Runs } from "./runs.mjs";
 import { pairsOf, messagesAlone } from "./compare.mjs";
 
@@ -67,7 +68,7 @@ export const Page = {
     if (this.report && !this.report.places.length) given.problems.push("No node has a structure.");
     const names = [...this.program?.nodes ?? [], ...this.report?.nodes.keys() ?? []];
     this.names = [...new Set(names)];
-    this.roles = this.rolesOf(chain);
+    this.roles = this.rolesOf(chain ?? given.explanations.get("stages")?.explanation);
     this.runs = this.report && this.edges.length ? new Runs(this.report, this.edges) : null;
     this.films = this.filmsOf(chain, chainEdges);
   },
@@ -83,7 +84,7 @@ export const Page = {
   rolesOf(chain) {
     const { listings } = this, samples = [], sampled = listings[0], total = sampled?.places.length ?? 0;
     for (let place = 0; place < total; place += Math.max(1, Math.floor(total / SAMPLE))) samples.push(sampled.structure(place));
-    const steps = chain?.steps.flatMap(({ structure }) => structure ?? []) ?? [];
+    const steps = [...chain?.steps ?? [], ...chain?.stages.lines ?? []].flatMap(({ structure }) => structure ?? []);
     const censuses = [...listings.map(({ census }) => census), ...chain ? [chain.census] : []];
     return new Roles(censuses, this.program, total ? samples : steps);
   },
@@ -94,8 +95,8 @@ export const Page = {
       if (difference) given.problems.push(`The chain isn't shown with this program, since it doesn't fit: ${difference}.`);
       films.push({ title: "Chain of tvla-explain", frames: chainFrames(chain, !difference) });
     }
-    const stages = given.explanations.get("stages")?.explanation.stages;
-    if (stages) films.push({ title: "Stages of a step", frames: stages.map(title => ({ title })) });
+    const step = given.explanations.get("stages")?.explanation;
+    if (step) films.push({ title: "Stages of a step", frames: stageFrames(step.stages) });
     if (given.replay) films.push({ title: `Replay: ${given.replay.file.path}`, frames: replayFrames(given.replay.replay, this) });
     return films;
   },
@@ -358,7 +359,7 @@ export const Page = {
     try {
       const search = Search.compile(query, this.roles), total = listing.places.length;
       for (let place = 0; place < total; place++) {
-        const cells = search(listing.structure(place));
+        const cells = search(listing.structure(place), listing.places[place].name);
         if (cells) {
           spots.push({ listing, place });
           found.set(listing.title(place), cells);

@@ -17,15 +17,22 @@ export class Roles {
       role.holders = [...Roles.holders(declared, role.name)];
     }
     this.fields = this.of("field");
+    const inverses = Roles.inverses(samples, this.fields);
     this.fields.forEach((field, i) => {
-      field.isBackward = this.fields.slice(0, i)
-        .some(other => !other.isBackward && Roles.isInverse(samples, field.name, other.name));
+      field.isBackward = this.fields.slice(0, i).some(other => !other.isBackward && inverses(field.name, other.name));
     });
+    this.closures = this.of("derived").filter(role => role.isClosure);
+    this.pointers = [...this.of("pointer"), ...this.of("property")];
     this.forward = this.fields.filter(field => !field.isBackward);
     this.isDown = this.forward.length > 1;
   }
   get all() { return [...this.predicates.values()]; }
-  of(...kinds) { return this.all.filter(role => kinds.includes(role.kind)); }
+  kept = new Map(); // by kinds
+  of(...kinds) {
+    const key = kinds.join();
+    if (!this.kept.has(key)) this.kept.set(key, this.all.filter(role => kinds.includes(role.kind)));
+    return this.kept.get(key);
+  }
   tell(role, facts, declared) {
     const { name, arity } = role;
     role.isDefined = declared?.isDefined ?? name.includes("[");
@@ -41,10 +48,20 @@ export class Roles {
       if (holds.includes(name) && !found.has(other)) Roles.holders(predicates, other, found.add(other));
     return found;
   }
-  static isInverse(structures, name, other) {
-    const back = structures.flatMap(structure => structure.pairs(other)
-      .filter(({ value, u, v }) => value === Kleene.YES && u !== v).map(({ u, v }) => structure.value(name, v, u)));
-    return back.length > 0 && back.filter(value => value).length * 2 >= back.length;
+  /** Tells of two fields whether where the second surely leads from one cell to another the first mostly leads back. */
+  static inverses(structures, fields) {
+    const pairs = new Map(), backs = new Map(), add = (map, key) => map.set(key, (map.get(key) ?? 0) + 1);
+    for (const structure of structures) {
+      const at = new Map(); // by two cells: which fields may lead so
+      const all = fields.flatMap(({ name }) => structure.pairs(name).map(pair => ({ ...pair, name })));
+      for (const { name, u, v } of all) at.set(`${u} ${v}`, [...at.get(`${u} ${v}`) ?? [], name]);
+      for (const { name, value, u, v } of all) {
+        if (value !== Kleene.YES || u === v) continue;
+        add(pairs, name);
+        for (const other of at.get(`${v} ${u}`) ?? []) add(backs, `${other} ${name}`);
+      }
+    }
+    return (name, other) => pairs.has(other) && (backs.get(`${name} ${other}`) ?? 0) * 2 >= pairs.get(other);
   }
   /** An unknown value that a definition excludes: where `t = n*` is false of a pair, so is `n`. */
   static excludes(structure, { name, holders }, u, v) {

@@ -37,8 +37,12 @@ export const tikzText = (drawing, title) => {
   const cells = drawing.cells.map(cell => `\\node[draw, circle, ${cell.isSummary ? "double, " : ""}minimum size=9mm] `
     + `(c${cell.u}) at ${at(cell)} {${letters(cell.name)}};`);
   const arrows = drawing.arrows.map(({ isMaybe, points }) => {
-    const way = points.length === 4 ? `${at(points[0])} .. controls ${at(points[1])} and ${at(points[2])} .. ${at(points[3])}`
-      : points.map(at).join(" -- ");
+    let way = at(points[0]);
+    for (let i = 1; i < points.length; i += 3) {
+      const [one, other, to] = points.slice(i, i + 3).map(at), from = at(points[i - 1]);
+      if (one === from && other === to) way += to === from ? "" : ` -- ${to}`;
+      else way += ` .. controls ${one} and ${other} .. ${to}`;
+    }
     return `\\draw[->${isMaybe ? ", dashed" : ""}] ${way};`;
   });
   const anchors = { start: "west", middle: "center", end: "east" };

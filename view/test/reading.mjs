@@ -19,10 +19,12 @@ import { FormulaReader, Valuation } from "../src/formulas.mjs";
 import { GraphDrawing, channels, depthFirst } from "../src/graph.mjs";
 import { origins } from "../src/origins.mjs";
 import { follow, runFrames } from "../src/film.mjs";
+import { stageFrames } from "../src/stages.mjs";
 import { Layout } from "../src/layout.mjs";
 import { Drawing } from "../src/drawing.mjs";
 import { Plan } from "../src/plan.mjs";
 import { Search } from "../src/search.mjs";
+import { reachWords } from "../src/reach.mjs";
 import { Links } from "../src/links.mjs";
 import { GivenFile, Given, droppedFiles, kindOf } from "../src/files.mjs";
 import { firstDifference } from "../src/fits.mjs";
@@ -276,12 +278,45 @@ test("what `show` writes is read", () => {
     listing.places.map((_, place) => Line.write(listing.structure(place), listing.census.ordered))),
     ["L0 0", "L1 2", "L2 1", "(x&t?)-n->(#1)  (#1)-n?->((t))  ((t))  b?", "", "(x)-n->(x)"]];
 });
-test("stages are lines that are kept", () => [Explanation.read(bytesOf("stage focus 0\nstage coerce 0\n")).stages, ["focus 0", "coerce 0"]]);
+const STEP = `stage structure 0  (#0)-n?->((#1))  ((#1&x?))-n?->((#1))
+stage   coerced  (#0)-n?->((#1))  ((#1&x?))-n?->((#1))
+stage   focus 0 atom 0
+stage     at hand 0  (#0)-n?->((#1))  ((#1&x?))-n?->((#1))
+stage       choice 0  (#0)-n?->((#1))  ((#1))-n?->((#1))
+stage         dropped by rule 3
+stage       choice 1  (#0)-n?->(x)  (x)-n?->(x)
+stage         coerced  (#0)-n->(x)  (x)
+stage   update of 0  (#0)-n->(x)  (x)
+stage     precondition is 1 for #1
+stage       given 0  (x)-n->(#1)  (#1)
+stage         coerced  (x)-n->(#1)  (#1)
+stage         blurred  (x)-n->(#1)  (#1)
+stage     precondition is 0 for #0
+stage   result 0  (x)-n->(#1)  (#1)
+`;
+test("the stages of a step are frames, with what drops a choice and what changes nothing", () => [
+  stageFrames(Explanation.read(bytesOf(STEP)).stages).map(({ title, structure, words, isDropped }) =>
+    [title, structure.size, isDropped ? "dropped" : "", ...words].join("; ")), [
+    "structure 0; 2; ; coerce changes nothing",
+    "focus 0 atom 0: at hand 0, choice 0; 2; dropped; dropped by rule 3",
+    "focus 0 atom 0: at hand 0, choice 1; 2; ", "focus 0 atom 0: at hand 0, choice 1, coerced; 2; ",
+    "update of 0; 2; ; precondition is 1 for #1",
+    "update of 0, precondition is 1 for #1: given 0; 2; ; coerce changes nothing; blur changes nothing",
+    "update of 0; 2; ; precondition is 0 for #0", "result 0; 2; "]]);
+test("what isn't in the grammar of stages is refused with line and column", async () => {
+  const rows = [["stage structure 0  (x)\nstage   focus 0 atom 0\n", "it, line 2, column 7: expected `  coerced`, found `  focus 0 atom 0`"],
+    ["stage structure 0  (x)\nstage   coerced  (x)\nstage     at hand 0  (x)\n",
+      "it, line 3, column 7: expected `  focus` or `  update of` or `  result` or `structure`, found `    at hand 0  (x)`"],
+    ["stage structure 0  (x)\nstage   dropped by nobody\n", "it, line 2, column 9: expected a declaration, found `dropped by nobody`"],
+    ["stage structure 0  (x)\nstage   coerced  (x)\nstage   update of 0  (x)\nstage     precondition is 2\n",
+      "it, line 4, column 11: expected `precondition is` and what stands behind it, found `precondition is 2`"]];
+  return [await Promise.all(rows.map(([text]) => faultOf(text, it => Explanation.read(bytesOf(it))))), rows.map(([, told]) => told)];
+});
 test("the replays of the examples are read", () => {
   const of = name => Replay.read(bytesIn(`examples/replayed_runs/${name}.replay`)).states;
   return [[of("reverse").length, of("reverse")[0].initial, of("reverse")[3].listed, of("call").at(-1).broken, of("silent").at(-1).listed,
     Replay.read(bytesOf("stuck: step 2 edge\n")).stuck],
-    [23, { index: 0, of: [0, 1, 1] }, { index: 4, of: [2, 1, 0] }, ["rules broken 7"], null, "stuck: step 2 edge"]];
+    [23, { index: 0, of: [0, 1, 1] }, { index: 4, of: [2, 1, 0] }, ["rules broken 8"], null, "stuck: step 2 edge"]];
 });
 
 /* ---- programs ---- */
@@ -359,7 +394,7 @@ test("a program that doesn't fit is refused with the first thing that differs", 
 });
 test("what a file is", () => [
   ["tvla report 2", "/* a */ vars {x}", "%n = {} %p = {}", "// only\n", "%p x(v) %% %% L f() L", "#include \"a.tvp\"\n", "initial 0", "state 0 node L",
-    "step 0", "accepted", "# Title\n\nwords", "{\"a\": 1}", "", "stage focus"].map(kindOf),
+    "step 0", "accepted", "# Title\n\nwords", "{\"a\": 1}", "", "stage structure 0"].map(kindOf),
   ["report", "source", "structures", "included", "program", "included", "explanation", "replay", "trace", "verdict", "", "", "", "explanation"]]);
 test("of a folder what is known is taken, and what isn't is told", async () => {
   const given = new Given(), file = (path, text) => new GivenFile(path, typeof text === "string" ? bytesOf(text) : text);
@@ -390,11 +425,38 @@ test("roles are guessed without a program", async () =>
     ["pointer x", "pointer y", "field n", "derived t[n]", "flag b"],
     ["pointer x", "pointer y", "field left", "field right"],
     ["pointer x", "field f", "field b"]]]);
+test("a report with 512 fields and one with 512 variables are drawn, and which field is another's inverse is told", async () => {
+  const names = (letter, count) => Array.from({ length: count }, (_, i) => `${letter}${i}`);
+  const fields = names("f", 512).map((name, i) => `${name} = {${i % 2 ? "b->a" : "a->b"}}`).join(" "), variables = names("x", 512).map(name => `${name} = {b}`).join(" ");
+  const drawn = async text => {
+    const { structures: [structure], roles } = await shown(`${HEAD}node L structures 1 %n = {a, b} %p = { ${text} } end`);
+    const drawing = new Drawing(structure, roles, { plan: new Plan([structure], roles) });
+    return [roles.all.length, roles.forward.length, drawing.cells.length, drawing.arrows.length > 0];
+  };
+  return [[await drawn(fields), await drawn(variables)], [[512, 256, 2, true], [512, 0, 2, true]]];
+});
 test("searches", async () => {
   const { structures, roles } = await shown(HEAD + LIST);
   const queries = ["x y", "y", "x, y", "no y", "y?", "!y x", "b", "b?", "n?", "x n", "x n?", "sm", "x and y"];
   return [queries.map(query => structures.flatMap((structure, i) => Search.compile(query, roles)(structure) ? [i] : [])),
     [[], [0], [0], [1], [2], [0, 1, 2], [1], [2], [0], [0, 1, 2], [], [0], []]];
+});
+test("searches along ways, and by what is reached", async () => {
+  const { structures, roles } = await shown(HEAD + LIST);
+  const queries = ["x n y", "y n x", "x n y n? sm", "x reaches y", "y !reaches x", "y reaches", "no y reaches x", "x reaches? y", "at L, b", "at M", "n y", "x,"];
+  return [queries.map(query => structures.flatMap((structure, i) => {
+    const found = Search.compile(query, roles)(structure, "L");
+    return found ? [`${i}:${found.join("")}`] : [];
+  }).join(" ")), ["0:21", "", "0:210", "0:21", "0:12", "0:10", "0: 1: 2:", "", "1:01", "", "0:21", "0:2 1:0 2:1"]];
+});
+test("what variables reach alone, as a compiled program says it, is found too, and told in words", async () => {
+  const { structures, roles } = await shown(`${HEAD}node L structures 2 %n = {a, b, c} %p = { x = {a} y = {b} n = {a->b} r[n,x] = {a, b} r[n,y] = {b, c:1/2} }
+    %n = {a, b} %p = { x = {a} y = {b} b = {a} r[n,x] = {a} r[n,y] = {b} } end`);
+  const queries = ["x reaches y", "y reaches? ", "x !reaches y", "y reaches x"];
+  return [[queries.map(query => structures.map(structure => Search.compile(query, roles)(structure)?.join("") ?? "-").join(" ")),
+    structures.map(structure => reachWords(structure, roles)), await Promise.resolve().then(() => Search.compile("b reaches x", roles)).catch(fault => fault.message.slice(0, 47))],
+  [["01 -", "12 -", "- 01", "- -"], ["x reaches y; doesn't reach c. y may reach c; doesn't reach x.", "x doesn't reach y. y doesn't reach x."],
+    "no predicate of this report says what is reached: t[n] or r[n,x]".slice(0, 47)]];
 });
 test("a search for an unknown predicate says so", async () => {
   const { roles } = await shown(HEAD + LIST);

@@ -224,10 +224,13 @@ const TESTS = {
     await load("index.html");
     return [found, [["L1 · 1", "L2 · 9", "L3 · 8", "L4 · 8"], ["examples/null_dereference/program.tvp"], [""], "Messages: 1"]];
   },
-  "stages are told, one after the other": async () => {
+  "the stages of a step are a film, with keys for back and forth": async () => {
     await call("forget");
-    await call("paste", "stage focus 0\nstage coerce 0\n");
-    return [[await texts("#film h2"), await texts("#film li button")], [["Step 0 of 1: focus 0"], ["focus 0", "coerce 0"]]];
+    await call("paste", `stage structure 0  (#0)-n?->((#1))  ((#1&x?))-n?->((#1))\nstage   coerced  (#0)-n?->((#1))  ((#1&x?))-n?->((#1))\nstage   focus 0 atom 0\nstage     at hand 0  (#0)-n?->((#1))  ((#1&x?))-n?->((#1))\nstage       choice 0  (#0)-n?->((#1))  ((#1))-n?->((#1))\nstage         dropped by rule 3\nstage       choice 1  (#0)-n?->(x)  (x)-n?->(x)\nstage         coerced  (#0)-n->(x)  (x)\nstage   update of 0  (#0)-n->(x)  (x)\nstage     precondition is 1 for #1\nstage       given 0  (x)-n->(#1)  (#1)\nstage         coerced  (x)-n->(#1)  (#1)\nstage         blurred  (x)-n->(#1)  (#1)\nstage     precondition is 0 for #0\nstage   result 0  (x)-n->(#1)  (#1)\n`);
+    const found = [await texts("#film h2"), await call("count", "#film .strip svg"), await call("count", "#film li.dropped")];
+    for (const key of ["ArrowRight", "ArrowRight", "ArrowLeft"]) await call("press", key, "#film");
+    return [[...found, await texts("#film h2"), await texts("#film .told"), await texts("#notice")],
+      [["Step 0 of 7: structure 0"], 8, 1, ["Step 1 of 7: focus 0 atom 0: at hand 0, choice 0"], ["dropped by rule 3"], [""]]];
   },
   "2,000 edges are a table with neighbours, 16,384 are shown in under two seconds": async () => {
     await call("forget");

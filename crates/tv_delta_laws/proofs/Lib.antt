@@ -6,6 +6,7 @@ pub mod Differenced
 pub mod FitUpdates
 pub mod Fits
 pub mod FormulaTruths
+pub mod OneDifferenced
 pub mod Options
 pub mod OwnVariables
 pub mod PutTruths

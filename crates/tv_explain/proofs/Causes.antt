@@ -7,8 +7,8 @@ use Rattle.tv_compiled.specs.Compiled.{IsCause as IsWritingCause}
 use Rattle.tv_compiled.specs.declared.error.CompiledError.{CompiledError}
 use Rattle.tv_compiled.specs.declared.error.CompiledError.TheVariants as compiled
 use Rattle.tv_compiled_laws.specs.Laws.{CompiledTextsArePrograms, MeansInFiles}
-use Rattle.tv_explain_source.specs.Sources.{IsSourceText}
-use Rattle.tv_explain_source.specs.declared.source.SourceText.{SourceText}
+use Rattle.tv_texts.specs.Sources.{IsSourceText}
+use Rattle.tv_texts.specs.declared.source.SourceText.{SourceText}
 use Rattle.tv_lex.specs.Gather.{longest_gathered}
 use Rattle.tv_model.specs.declared.program.Program.{Program}
 use Rattle.tv_outside.specs.Told.{Held, HoldsName}
@@ -27,7 +27,7 @@ use Rattle.tv_explain.specs.Answers.{FilesMeanSuch, IsAnswer, IsCompiledText, Is
 use Rattle.tv_explain.specs.Answers.{compiled_lines}
 use Rattle.tv_explain.specs.Call.{IsAnswerTo, IsCause, IsCommandCause, IsFound, UnlessReadFault}
 use Rattle.tv_explain.specs.Faults.{fault_of_text, fault_of_work, fault_of_writing}
-use Rattle.tv_explain.specs.Meaning.{FilesMean, IsDrawnFile, IsMissing, IsRefused, LacksInputs, form_in}
+use Rattle.tv_explain.specs.Meaning.{FilesMean, IsDrawnFile, IsMissing, IsRefused, LacksInputs, drawn_form}
 use Rattle.tv_explain.specs.Meaning.{program_name}
 use Rattle.tv_explain.specs.Work.{IsInputsCause, plain}
 use Rattle.tv_explain.specs.declared.fault.Answer.{Answer}
@@ -244,6 +244,7 @@ pub written_text : CompiledTextsArePrograms → (source : SourceText) (text : Li
     → IsCompiledText source text
 written_text law source text is means size = record {
   is = is;
+  fits = size;
   means = means;
   holders = subst (λ t. MeansInFiles t source.program) (sym is)
       (law source.bytes.items source.tokens.list.items source.program
@@ -253,7 +254,7 @@ written_text law source text is means size = record {
 
 -- why a search finds nothing
 pub work_stopped : (command : CommandForm) (of : AnalyzedForm) (inputs : Inputs) (e : WorkError)
-    → IsWorkCause (form_in inputs) of.max (Reached of inputs) e
+    → IsWorkCause (drawn_form inputs) of.max (Reached of inputs) e
     → IsStopped command of inputs (fault_of_work of.max e)
 work_stopped command of inputs work.Structures h = (refl, h)
 work_stopped command of inputs work.Splits h = h

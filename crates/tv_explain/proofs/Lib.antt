@@ -1,4 +1,11 @@
+mod Alike
 mod Begins
 mod Causes
+mod Duly
+mod EdgeSteps
+mod EdgesDrawn
+mod EdgesKept
+mod EdgesWired
 mod Endings
+mod Silence
 mod Trees

@@ -1,59 +1,34 @@
 -- Programs with their heads, and texts that have no tree, as files that mean nothing.
-use Rattle.std.proofs.Common.{◌≡◌, ℕ, Bool, true, false, List, Option, Ok, sym, ap, subst}
+use Rattle.std.proofs.Common.{ℕ, Bool, true, false, List, Option, sym, ap, subst}
 use Rattle.std.specs.List.{AllZip}
 use Rattle.std.specs.declared.alloc.Global.{Global}
 use Rattle.std.specs.declared.vec.Vec.{Vec}
 use Rattle.tv_edge_heads.specs.Heads.{AreHeads}
-use Rattle.tv_edge_laws.specs.Edges.{EdgesAreKept, IsEdgeOf}
-use Rattle.tv_expand.specs.Expansion.{expansion}
-use Rattle.tv_flat.specs.FlatForm.{FlatForm}
-use Rattle.tv_front.proofs.Stages.{tree_read}
+use Rattle.tv_explain.specs.Edges.{EdgesAreKept, IsEdgeOf}
+use Rattle.tv_front.specs.Trees.{IsUnderstood}
+use Rattle.tv_front.specs.declared.understood.Understood.{Understood}
 use Rattle.tv_lex.specs.Parts.{IsMadeOf}
-use Rattle.tv_lex.specs.Pieces.{Reads}
-use Rattle.tv_lex.specs.Token.{spec_tokens}
 use Rattle.tv_lex.specs.Traced.{Traced}
 use Rattle.tv_lex.specs.declared.gatherer.Gathered.{Gathered}
-use Rattle.tv_lex.specs.declared.gatherer.GatherError.TheVariants as gathering
 use Rattle.tv_model.specs.Program.{ProgramForm, program_of}
 use Rattle.tv_model.specs.declared.program.Edge.{Edge}
-use Rattle.tv_parse.specs.Grammar.{IsProgram}
-use Rattle.tv_parse.specs.Height.{IsTooDeep}
 use Rattle.tv_outside.specs.Told.{Held}
-use Rattle.tv_status.specs.declared.status.FileKind.TheVariants as kind
-use Rattle.tv_status.specs.declared.status.Role.TheVariants as role
 use Rattle.tv_tree.specs.Copies.{program_of as tree_of}
-use Rattle.tv_vocab.specs.Resolution.{program as resolution}
 use Rattle.tv_explain.specs.Meaning.{IsDrawnFile, IsDrawnText}
-use Rattle.tv_explain.specs.Work.{IsDrawnWhereParted, IsTakenFrom, IsUnderstood}
+use Rattle.tv_explain.specs.Work.{IsDrawnWhereParted, IsTakenFrom}
 use Rattle.tv_explain.specs.declared.inputs.Drawn.{Drawn}
-use Rattle.tv_explain.specs.declared.inputs.Understood.{Understood}
 
--- a text, its tree, and the program that comes of it
-pub understood : EdgesAreKept → (text : List ℕ) (u : Understood) (flat : FlatForm)
-    → Reads text (Ok u.tokens.list.items) → (¬ IsTooDeep (spec_tokens text u.tokens.list.items))
-    → IsProgram (spec_tokens text u.tokens.list.items) (tree_of u.tree) → expansion (tree_of u.tree) ≡ Ok flat
-    → resolution flat ≡ Ok (program_of u.program) → IsUnderstood text u
-understood kept text u flat reads low grammar expands resolves =
-    let has = tree_read text u.tokens.list.items (tree_of u.tree) reads low grammar in
-    record {
-      means = (flat, (tree_of u.tree, has, expands), resolves);
-      reads = reads;
-      grammar = grammar;
-      has = has;
-      edges = kept (tree_of u.tree) flat (program_of u.program) expands resolves;
-    }
-
--- and its heads
-pub drawn : (gathered : Gathered) (u : Understood) (heads : Vec (List ℕ) Global)
+-- the program that a text means, with its heads
+pub drawn : EdgesAreKept → (gathered : Gathered) (u : Understood) (heads : Vec (List ℕ) Global)
     → IsUnderstood gathered.bytes.items u
     → ((traced : List Traced) → IsMadeOf traced gathered
     → AreHeads traced gathered.bytes.items (tree_of u.tree) heads.items)
     → IsDrawnWhereParted gathered (record { program = u.program; heads = heads })
-drawn gathered u heads is stand = λ told name parted. record {
-  means = is.means;
+drawn kept gathered u heads is stand = λ told name parted. record {
+  means = (is.flat, (tree_of u.tree, is.has, is.expands), is.resolves);
   tree = tree_of u.tree;
   has = is.has;
-  edges = is.edges;
+  edges = kept (tree_of u.tree) is.flat (program_of u.program) is.expands is.resolves;
   traced = parted.0;
   come = parted.1;
   heads = stand parted.0 parted.2;

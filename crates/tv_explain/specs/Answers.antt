@@ -5,22 +5,23 @@ use Rattle.std.specs.Prelude.{Contains}
 use Rattle.tv_compiled.specs.Compiled.{IsCause, written}
 use Rattle.tv_compiled.specs.declared.error.CompiledError.TheVariants as compiled
 use Rattle.tv_compiled_laws.specs.Laws.{MeansInFiles}
-use Rattle.tv_explain_source.specs.Sources.{IsSourceText}
-use Rattle.tv_explain_source.specs.declared.source.SourceText.{SourceText}
+use Rattle.tv_texts.specs.Sources.{IsSourceText}
+use Rattle.tv_texts.specs.declared.source.SourceText.{SourceText}
 use Rattle.tv_kleene.specs.declared.K3.{K3}
+use Rattle.tv_lex.specs.Gather.{longest_gathered}
 use Rattle.tv_listing.specs.declared.analysis.Analysis.{Analysis}
 use Rattle.tv_losses_text.specs.Reports.{IsLossReport}
 use Rattle.tv_model.specs.Program.{MessageForm, program_of}
 use Rattle.tv_model.specs.declared.program.Program.{Program}
 use Rattle.tv_outside.specs.Told.{Held}
-use Rattle.tv_trail_reasons.specs.Reasons.{HasNone, IsLedToBy, IsNeverRaised, IsRaisedBy}
+use Rattle.tv_trail.specs.Reasons.{HasNone, IsLedToBy, IsNeverRaised, IsRaisedBy}
 use Rattle.tv_step_laws.specs.Budgets.{MeetsIndividuals, MeetsSplits}
 use Rattle.tv_texts.specs.Files.{IsProgramFile, IsReportFile}
 use Rattle.tv_texts.specs.Meaning.{MeansProgram}
 use Rattle.tv_trail_laws.specs.declared.trail.Trail.{Trail}
 use Rattle.tv_work.specs.Analyzed.{Meets}
 use Rattle.tv_work.specs.Reach.{AreMoreThan, IsReached, Point}
-use Rattle.tv_explain.specs.Meaning.{FilesMean, IsDrawnFile, form_in, heads_in}
+use Rattle.tv_explain.specs.Meaning.{FilesMean, IsDrawnFile, drawn_form, heads_in}
 use Rattle.tv_explain.specs.declared.fault.Answer.{Answer}
 use Rattle.tv_explain.specs.declared.fault.Fault.{Fault}
 use Rattle.tv_explain.specs.declared.fault.Fault.TheVariants.{Memory, NotThere, Structures}
@@ -48,29 +49,30 @@ trail_lines inputs trail = trail_text inputs.drawn.program.vocab (heads_in input
 abbrev pub TellsOfMessage : AnalyzedForm → Inputs → (edge number : ℕ) → MessageForm → (text : List ℕ) → Type 0
 TellsOfMessage of inputs edge number message text =
     ((trail : Trail) × (value : K3)
-    × IsRaisedBy (form_in inputs) of.mode inputs.initial edge number trail value
+    × IsRaisedBy (drawn_form inputs) of.mode inputs.initial edge number trail value
     × (text
     ≡ trail_lines inputs trail ++ raised_line (heads_in inputs) edge number value message.text))
-    ⊎ (IsNeverRaised (form_in inputs) of.mode inputs.initial edge number × (text ≡ codes "no message\n"))
+    ⊎ (IsNeverRaised (drawn_form inputs) of.mode inputs.initial edge number × (text ≡ codes "no message\n"))
 
 -- the message of this number among those of the edge's action is told of
 abbrev pub IsMessageText : AnalyzedForm → Inputs → (edge number : ℕ) → (text : List ℕ) → Type 0
 IsMessageText of inputs edge number text = (message : MessageForm)
-    × (slice_get (messages_at (form_in inputs) edge) number ≡ Some message)
+    × (slice_get (messages_at (drawn_form inputs) edge) number ≡ Some message)
     × TellsOfMessage of inputs edge number message text
 
 -- the text is that of a shortest trail to the structure at this place of the node of this name
 abbrev pub IsStructureText : AnalyzedForm → Inputs → (node : List ℕ) → (index : ℕ) → (text : List ℕ) → Type 0
 IsStructureText of inputs node index text = (place : ℕ)
-    × (slice_get (form_in inputs).nodes place ≡ Some node)
-    × ((trail : Trail) × IsLedToBy (form_in inputs) of.mode inputs.initial of.max place index trail
+    × (slice_get (drawn_form inputs).nodes place ≡ Some node)
+    × ((trail : Trail) × IsLedToBy (drawn_form inputs) of.mode inputs.initial of.max place index trail
     × (text ≡ trail_lines inputs trail))
 
 -- ---- losses
 
 -- the answer is the report on what the analysis loses, and says whether it loses anything
 abbrev pub TellsOfLosses : AnalyzedForm → Inputs → Answer → Type 0
-TellsOfLosses of inputs answer = IsLossReport (form_in inputs) (heads_in inputs) of.mode inputs.initial of.max
+TellsOfLosses of inputs answer =
+    IsLossReport (drawn_form inputs) (heads_in inputs) of.mode inputs.initial of.max
     (record { text = answer.text; is_any = answer.is_lost })
 
 -- ---- compiled programs
@@ -82,6 +84,7 @@ compiled_lines source = written source.bytes.items source.tokens.list.items (pro
 -- the program is written, and what is written means it, in each file that holds it too
 pub record IsCompiledText (source : SourceText) (text : List ℕ) : Type 0 where
   pub is : text ≡ compiled_lines source
+  pub fits : length text ≤ longest_gathered
   pub means : MeansProgram text (Ok source.program)
   pub holders : MeansInFiles text source.program
 
@@ -119,18 +122,19 @@ IsAnswer told other answer = IsText told other answer.text.items × (answer.is_l
 
 -- the points that the analysis reaches
 abbrev pub Reached : AnalyzedForm → Inputs → Point → Type 0
-Reached of inputs = IsReached (form_in inputs) of.mode inputs.initial
+Reached of inputs = IsReached (drawn_form inputs) of.mode inputs.initial
 
 -- what the words name isn't there: the program has no edge of that number, the edge's action no such message,
 -- the program no node of that name, or the analysis no structure at that place of it
 abbrev pub NamesNothing : CommandForm → AnalyzedForm → Inputs → Sought → Type 0
-NamesNothing (TellsMessage asked edge number) of inputs sought.Edge = length (form_in inputs).edges ≤ edge
+NamesNothing (TellsMessage asked edge number) of inputs sought.Edge = length (drawn_form inputs).edges ≤ edge
 NamesNothing (TellsMessage asked edge number) of inputs sought.Message =
-    (edge < length (form_in inputs).edges) × (length (messages_at (form_in inputs) edge) ≤ number)
-NamesNothing (TellsStructure asked node index) of inputs sought.Node = ¬ Contains (form_in inputs).nodes node
+    (edge < length (drawn_form inputs).edges) × (length (messages_at (drawn_form inputs) edge) ≤ number)
+NamesNothing (TellsStructure asked node index) of inputs sought.Node =
+    ¬ Contains (drawn_form inputs).nodes node
 NamesNothing (TellsStructure asked node index) of inputs sought.Structure = (place : ℕ)
-    × (slice_get (form_in inputs).nodes place ≡ Some node)
-    × HasNone (form_in inputs) of.mode inputs.initial of.max place index
+    × (slice_get (drawn_form inputs).nodes place ≡ Some node)
+    × HasNone (drawn_form inputs) of.mode inputs.initial of.max place index
 NamesNothing command of inputs other = ⊥
 
 -- why the command gives no text where its files mean these: more structures are reached than may be listed,
@@ -138,9 +142,9 @@ NamesNothing command of inputs other = ⊥
 abbrev pub IsStopped : CommandForm → AnalyzedForm → Inputs → Fault → Type 0
 IsStopped command of inputs (Structures max) = (max ≡ of.max) × AreMoreThan max (Reached of inputs)
 IsStopped command of inputs TooManySplits =
-    Meets (form_in inputs) (MeetsSplits (form_in inputs)) (Reached of inputs)
+    Meets (drawn_form inputs) (MeetsSplits (drawn_form inputs)) (Reached of inputs)
 IsStopped command of inputs TooManyIndividuals =
-    Meets (form_in inputs) (MeetsIndividuals (form_in inputs)) (Reached of inputs)
+    Meets (drawn_form inputs) (MeetsIndividuals (drawn_form inputs)) (Reached of inputs)
 IsStopped command of inputs (NotThere what) = NamesNothing command of inputs what
 IsStopped command of inputs Memory = Unit {0}
 IsStopped command of inputs other = ⊥

@@ -1,13 +1,13 @@
 -- How often files are begun.
-use Rattle.std.specs.Prelude.{ℕ, ◌+◌, Option}
-use Rattle.tv_lex.specs.Gather.{BeginsBy}
+use Rattle.std.specs.Prelude.{ℕ, ◌+◌, List, Option}
+use Rattle.tv_lex.specs.Gather.{BeginsAtMost, BeginsBy}
 use Rattle.tv_outside.specs.Told.{Held}
 use Rattle.tv_status.specs.declared.status.Status.TheVariants.{Done}
 use Rattle.tv_texts.specs.Files.{program_begins}
 use Rattle.tv_explain.specs.declared.fault.Ending.{Ending}
 use Rattle.tv_explain.specs.declared.fault.Ending.TheVariants.{As, Lost}
 use Rattle.tv_explain_words.specs.Words.{CommandForm, Shows, ListsEdges, TellsMessage, TellsStructure}
-use Rattle.tv_explain_words.specs.Words.{TellsLosses, Compiles}
+use Rattle.tv_explain_words.specs.Words.{TellsLosses, Compiles, Spells}
 
 -- how often files are begun for a command: those of its program, and each other that it names once
 abbrev pub begins_of : Held → CommandForm → ℕ
@@ -21,6 +21,15 @@ begins_of held (Compiles source) = 1
 -- by as much as the command asks for
 abbrev pub BeginsFor : Option Held → (old new : ℕ) → CommandForm → Type 0
 BeginsFor told old new command = BeginsBy told (λ held. begins_of held command) old new
+
+-- at most as often as the command asks for
+abbrev pub FewBegins : Option Held → (old new : ℕ) → CommandForm → Type 0
+FewBegins told old new command = BeginsAtMost told (λ held. begins_of held command) old new
+
+-- no ending has begun more files than those of the command that the words spell
+abbrev pub BeginsNoMore : List (List ℕ) → Option Held → (old new : ℕ) → Type 0
+BeginsNoMore words told old new =
+    (command : CommandForm) → Spells words command → FewBegins told old new command
 
 -- this holds where the call gave an answer
 abbrev pub OnAnswer : Ending → Type 0 → Type 0

@@ -45,7 +45,7 @@ IsFound words told rose steady (Ok answer) = IsAnswerTo words told answer
 IsFound words told rose steady (Err fault) = IsCause words told rose steady fault
 
 -- the call found what is called for, and gave it
-pub record HasDone (words : List (List ℕ)) (told : Option Held) (read_rose steady out_rose err_rose : Type 0)
+pub record IsEnded (words : List (List ℕ)) (told : Option Held) (read_rose steady out_rose err_rose : Type 0)
     (out_old out_new err_old err_new : Option (List ℕ)) (ending : Ending) : Type 0 where
   pub found : Result Answer Fault
   pub is : IsFound words told read_rose steady found

@@ -8,6 +8,11 @@ use Rattle.tv_explain.specs.declared.fault.Ending.{Ending}
 use Rattle.tv_explain.specs.declared.fault.Ending.TheVariants.{As}
 use Rattle.tv_explain.specs.declared.fault.Fault.{Fault}
 
+-- the ending of a call that found this, where no sink fails
+abbrev pub ending_for : Result Answer Fault → Ending
+ending_for (Ok answer) = ending_with answer.is_lost
+ending_for (Err fault) = ending_of fault
+
 -- the whole text was taken and the call ends so, or a front of it, and the call ends in a write fault
 abbrev pub Takes : (text : List ℕ) → (due ends : Ending) → (rose : Type 0) → (old new : Option (List ℕ))
     → Type 0

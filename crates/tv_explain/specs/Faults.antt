@@ -2,8 +2,9 @@
 use Rattle.std.specs.Prelude.{ℕ, Bool, true, false, List, [], ◌++◌, codes}
 use Rattle.tv_compiled.specs.declared.error.CompiledError.{CompiledError}
 use Rattle.tv_compiled.specs.declared.error.CompiledError.TheVariants as compiled
-use Rattle.tv_status.specs.Status.{code_of as status_code, line, text_of as told_text}
+use Rattle.tv_status.specs.Status.{code_of as status_code, line, teller_line, told_by}
 use Rattle.tv_status.specs.declared.status.Status.TheVariants as status
+use Rattle.tv_status.specs.declared.status.Teller.TheVariants.{Explainer}
 use Rattle.tv_texts.specs.declared.fault.TextFault.{TextFault}
 use Rattle.tv_texts.specs.declared.fault.TextFault.TheVariants as text
 use Rattle.tv_work.specs.declared.error.WorkError.{WorkError}
@@ -78,21 +79,22 @@ usage_text =
 
 -- what isn't there
 abbrev pub absent_text : Sought → List ℕ
-absent_text sought.Edge = line (codes "tvla: no such edge")
-absent_text sought.Message = line (codes "tvla: no such message")
-absent_text sought.Node = line (codes "tvla: no such node")
-absent_text sought.Structure = line (codes "tvla: no such structure")
+absent_text sought.Edge = teller_line Explainer (codes "no such edge")
+absent_text sought.Message = teller_line Explainer (codes "no such message")
+absent_text sought.Node = teller_line Explainer (codes "no such node")
+absent_text sought.Structure = teller_line Explainer (codes "no such structure")
 
 -- why a compiled program isn't written
 abbrev pub unwritten_text : Unwritten → List ℕ
-unwritten_text unwritten.TooLong = line (codes "tvla: the compiled program is too long to be written")
-unwritten_text unwritten.Differs = line (codes "tvla: the compiled program can't be written as a text")
+unwritten_text unwritten.TooLong =
+    teller_line Explainer (codes "the compiled program is too long to be written")
+unwritten_text unwritten.Differs =
+    teller_line Explainer (codes "the compiled program can't be written as a text")
 
--- the text that tells an ending to whom called: as of `tvla`, but for the words, what they name, and compiled
--- programs
+-- the text that tells an ending to whom called: as of `tvla`, but for the program's name and its commands,
+-- what the words name, and compiled programs
 abbrev pub text_of : Ending → List ℕ
-text_of (As status.Usage) = usage_text
-text_of (As other) = told_text other
+text_of (As it) = told_by Explainer usage_text it
 text_of Lost = []
 text_of (Absent what) = absent_text what
 text_of (Unwritable why) = unwritten_text why

@@ -1,7 +1,10 @@
 pub mod Faults
+pub mod Edges
 pub mod Meaning
 pub mod Answers
 pub mod Begins
 pub mod Call
 pub mod Delivery
 pub mod Work
+pub mod Due
+pub mod Laws

@@ -3,7 +3,7 @@ use Rattle.std.specs.Prelude.{ℕ, ◌⊎◌, Bool, true, false, List, Option, O
 use Rattle.std.specs.List.{AllZip}
 use Rattle.tv_delta_laws.specs.Differences.{IsDifferenced}
 use Rattle.tv_edge_heads.specs.Heads.{AreHeads}
-use Rattle.tv_edge_laws.specs.Edges.{IsEdgeOf}
+use Rattle.tv_explain.specs.Edges.{IsEdgeOf}
 use Rattle.tv_front.specs.Meaning.{HasTree}
 use Rattle.tv_lex.specs.Traced.{IsTraced, Traced}
 use Rattle.tv_model.specs.Program.{ProgramForm, program_of}
@@ -62,8 +62,8 @@ pub record FilesMean (told : Option Held) (of : AnalyzedForm) (inputs : Inputs) 
   pub drawn : IsDrawnFile told of.delta of.program inputs.drawn
   pub initial : IsInitialFile told of.initial inputs.drawn.program (Ok inputs.initial)
 
-abbrev pub form_in : Inputs → ProgramForm
-form_in inputs = program_of inputs.drawn.program
+abbrev pub drawn_form : Inputs → ProgramForm
+drawn_form inputs = program_of inputs.drawn.program
 
 -- the edges of the program, as they are written, each behind its place
 abbrev pub heads_in : Inputs → List (List ℕ)
@@ -76,16 +76,22 @@ abbrev pub IsNoInitial : Option Held → AnalyzedForm → FileKind → Type 0
 IsNoInitial told of kind = (drawn : Drawn) × IsDrawnFile told of.delta of.program drawn
     × IsInitialFile told of.initial drawn.program (Err kind)
 
+-- of the files of an analysis, the one of this role is the first that means nothing, for this reason
+abbrev pub IsNoAnalysis : Option Held → AnalyzedForm → Role → FileKind → Type 0
+IsNoAnalysis told of role.Program kind = IsProgramFile told of.program (Err kind)
+IsNoAnalysis told of role.Initial kind = IsNoInitial told of kind
+IsNoAnalysis told of other kind = ⊥
+
 -- the file of this role is the first that means nothing, for this reason
 abbrev pub IsRefused : Option Held → CommandForm → Role → FileKind → Type 0
-IsRefused told (Compiles source) role.Source kind = IsSourceFile told source (Err kind)
-IsRefused told (Compiles source) other kind = ⊥
-IsRefused told command role.Program kind = IsProgramFile told (program_name command) (Err kind)
+IsRefused told (Shows program report) role.Program kind = IsProgramFile told program (Err kind)
 IsRefused told (Shows program report) role.Report kind = (p : Program) × IsProgramFile told program (Ok p)
     × IsReportFile told report p (Err kind)
-IsRefused told (TellsMessage of edge number) role.Initial kind = IsNoInitial told of kind
-IsRefused told (TellsStructure of node index) role.Initial kind = IsNoInitial told of kind
-IsRefused told (TellsLosses of) role.Initial kind = IsNoInitial told of kind
+IsRefused told (ListsEdges program) role.Program kind = IsProgramFile told program (Err kind)
+IsRefused told (TellsMessage of edge number) role kind = IsNoAnalysis told of role kind
+IsRefused told (TellsStructure of node index) role kind = IsNoAnalysis told of role kind
+IsRefused told (TellsLosses of) role kind = IsNoAnalysis told of role kind
+IsRefused told (Compiles source) role.Source kind = IsSourceFile told source (Err kind)
 IsRefused told command other kind = ⊥
 
 -- PROGRAM isn't there, or a file that it includes and that is come to before any refusal; or it means a

@@ -1,40 +1,23 @@
 -- What the parts of the work give.
-use Rattle.std.specs.List.{AllZip}
 use Rattle.std.specs.Prelude.{◌≡◌, ℕ, Bool, true, false, List, Option, Result, Ok, Err, All}
 use Rattle.std.specs.declared.alloc.Global.{Global}
 use Rattle.std.specs.declared.vec.Vec.{Vec}
 use Rattle.tv_delta_laws.specs.Differences.{IsDifferenced}
-use Rattle.tv_edge_laws.specs.Edges.{IsEdgeOf}
-use Rattle.tv_front.specs.Meaning.{HasTree}
 use Rattle.tv_lex.specs.Parts.{HasParts}
-use Rattle.tv_lex.specs.Pieces.{Reads}
-use Rattle.tv_lex.specs.Token.{spec_tokens}
 use Rattle.tv_lex.specs.declared.gatherer.Gathered.{Gathered}
 use Rattle.tv_model.specs.Program.{program_of}
 use Rattle.tv_model.specs.Valid.{IsValid}
 use Rattle.tv_outside.specs.Told.{Held}
 use Rattle.tv_status.specs.declared.status.Role.TheVariants as role
 use Rattle.tv_structure_form.specs.StructureForm.{IsOver}
-use Rattle.tv_parse.specs.Grammar.{IsProgram}
 use Rattle.tv_texts.specs.Files.{IsProgramFile}
-use Rattle.tv_texts.specs.Meaning.{MeansProgram}
-use Rattle.tv_tree.specs.Copies.{program_of as tree_of}
 use Rattle.tv_explain.specs.Meaning.{IsDrawnText, IsNoInitial, LacksInputs}
 use Rattle.tv_explain.specs.declared.fault.Answer.{Answer}
 use Rattle.tv_explain.specs.declared.fault.Fault.{Fault}
 use Rattle.tv_explain.specs.declared.fault.Fault.TheVariants.{FileFault, ReadFault, Memory}
 use Rattle.tv_explain.specs.declared.inputs.Drawn.{Drawn}
 use Rattle.tv_explain.specs.declared.inputs.Inputs.{Inputs}
-use Rattle.tv_explain.specs.declared.inputs.Understood.{Understood}
 use Rattle.tv_explain_words.specs.Words.{AnalyzedForm}
-
--- the text means the program, and has these tokens and this tree, whose edges are the program's
-pub record IsUnderstood (text : List ℕ) (u : Understood) : Type 0 where
-  pub means : MeansProgram text (Ok u.program)
-  pub reads : Reads text (Ok u.tokens.list.items)
-  pub grammar : IsProgram (spec_tokens text u.tokens.list.items) (tree_of u.tree)
-  pub has : HasTree text (tree_of u.tree)
-  pub edges : AllZip (IsEdgeOf u.program.nodes) (tree_of u.tree).edges u.program.edges
 
 -- where a file's gathered text is made of its parts, it means the program with its heads
 abbrev pub IsDrawnWhereParted : Gathered → Drawn → Type 0

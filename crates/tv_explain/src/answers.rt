@@ -6,7 +6,7 @@ ghost use Rattle.tv_model.specs.Program.{message_of};
 ghost use Rattle.tv_trail.specs.Over.{IsTrailOver};
 ghost use Rattle.tv_explain.specs.Answers.{IsMessageText, IsStopped, IsStructureText, NamesNothing};
 ghost use Rattle.tv_explain.specs.Answers.{TellsOfLosses, trail_lines};
-ghost use Rattle.tv_explain.specs.Meaning.{form_in, heads_in};
+ghost use Rattle.tv_explain.specs.Meaning.{drawn_form, heads_in};
 ghost use Rattle.tv_explain.specs.Work.{AreReady};
 ghost use Rattle.tv_explain_text.specs.Texts.{messages_at};
 ghost use Rattle.tv_explain_text.specs.Trails.{raised_line};
@@ -20,7 +20,7 @@ use tv_explain_text::{Told, messages_at, raised_text, trail_text};
 use tv_explain_words::Analyzed;
 use tv_losses_text::explain_losses;
 use tv_model::{Bytes, Message};
-use tv_trail_reasons::{Raised, trail_to_listed, trail_to_message};
+use tv_trail::{Raised, trail_to_listed, trail_to_message};
 
 /// The text that no reached structure raises a message.
 fn no_message(alloc: Global) -> Result<Vec<u8>, AllocError>
@@ -31,8 +31,8 @@ fn no_message(alloc: Global) -> Result<Vec<u8>, AllocError>
 
 /// The message of this number among those of the edge's action.
 fn message_at(inputs: &Inputs, edge: u32, number: u32) -> Result<&Message, Sought>
-    ensures edge { IfOk result (λ message. edge < length (form_in inputs.now).edges) }
-    ensures message { IfOk result (λ message. slice_get (messages_at (form_in inputs.now) edge) number
+    ensures edge { IfOk result (λ message. edge < length (drawn_form inputs.now).edges) }
+    ensures message { IfOk result (λ message. slice_get (messages_at (drawn_form inputs.now) edge) number
         ≡ Some (message_of message.now)) }
     ensures cause { (of : AnalyzedForm) → IfErr result
         (NamesNothing (TellsMessage of edge number) of inputs.now) }

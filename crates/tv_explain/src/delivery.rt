@@ -3,13 +3,13 @@
 ghost use Rattle.std.specs.Prelude.{◌≡◌, ◌≤◌, OnOk, OnErr};
 ghost use Rattle.tv_outside.specs.Count.{Rose, FailedLast};
 ghost use Rattle.tv_outside.specs.Told.{appended, TookFront};
-ghost use Rattle.tv_texts.specs.Delivery.{StopsAtFailure};
+ghost use Rattle.tv_status.specs.Delivery.{StopsAtFailure};
 ghost use Rattle.tv_explain.specs.Delivery.{GivesText, IsDelivered, Takes};
-ghost use Rattle.tv_explain.specs.Faults.{absent_text, ending_with, text_of, unwritten_text, usage_text};
+ghost use Rattle.tv_explain.specs.Faults.{absent_text, ending_with, text_of, unwritten_text};
 
 use crate::fault::{Answer, Ending, Fault, Sought, Unwritten};
 use tv_outside::{Failed, Sink, write_all};
-use tv_status::{Status, write_status};
+use tv_status::{Status, Teller, write_line, write_told};
 
 const USAGE: &[u8] =
     b"usage: tvla-explain message PROGRAM INITIAL EDGE NUMBER [--max-structures N] [--recompute | --delta]
@@ -19,19 +19,6 @@ const USAGE: &[u8] =
        tvla-explain edges PROGRAM
        tvla-explain compiled SOURCE
 ";
-
-/// Gives the usage text to the sink; takes no memory.
-fn write_usage<E: Sink>(err: &mut E) -> Result<(), Failed>
-    ensures all { OnOk result (E.taken err.new ≡ appended (E.taken err.old) usage_text) }
-    ensures failed { OnErr result (Rose (E.faults err.old) (E.faults err.new)) }
-    ensures front { OnErr result (TookFront (E.taken err.old) (E.taken err.new) usage_text) }
-    ensures no_failure { OnOk result (E.failures err.new ≡ E.failures err.old) }
-    ensures failed_last { OnErr result
-        (FailedLast (E.failures err.old) (E.failures err.new) (E.since err.new)) }
-    ensures count { E.faults err.old ≤ E.faults err.new }
-{
-    write_all(err, USAGE)
-}
 
 /// Gives the text that tells what isn't there to the sink; takes no memory.
 fn write_absent<E: Sink>(err: &mut E, what: Sought) -> Result<(), Failed>
@@ -44,10 +31,10 @@ fn write_absent<E: Sink>(err: &mut E, what: Sought) -> Result<(), Failed>
     ensures count { E.faults err.old ≤ E.faults err.new }
 {
     match what {
-        Sought::Edge => write_all(err, b"tvla: no such edge\n"),
-        Sought::Message => write_all(err, b"tvla: no such message\n"),
-        Sought::Node => write_all(err, b"tvla: no such node\n"),
-        Sought::Structure => write_all(err, b"tvla: no such structure\n"),
+        Sought::Edge => write_line(err, Teller::Explainer, b"no such edge"),
+        Sought::Message => write_line(err, Teller::Explainer, b"no such message"),
+        Sought::Node => write_line(err, Teller::Explainer, b"no such node"),
+        Sought::Structure => write_line(err, Teller::Explainer, b"no such structure"),
     }
 }
 
@@ -63,15 +50,17 @@ fn write_unwritten<E: Sink>(err: &mut E, why: Unwritten) -> Result<(), Failed>
 {
     match why {
         Unwritten::TooLong => {
-            write_all(
+            write_line(
                 err,
-                b"tvla: the compiled program is too long to be written\n",
+                Teller::Explainer,
+                b"the compiled program is too long to be written",
             )
         }
         Unwritten::Differs => {
-            write_all(
+            write_line(
                 err,
-                b"tvla: the compiled program can't be written as a text\n",
+                Teller::Explainer,
+                b"the compiled program can't be written as a text",
             )
         }
     }
@@ -88,8 +77,7 @@ fn write_text<E: Sink>(err: &mut E, ending: Ending) -> Result<(), Failed>
     ensures count { E.faults err.old ≤ E.faults err.new }
 {
     match ending {
-        Ending::As(Status::Usage) => write_usage(err),
-        Ending::As(status) => write_status(err, status),
+        Ending::As(status) => write_told(err, Teller::Explainer, USAGE, status),
         Ending::Lost => write_all(err, b""),
         Ending::Absent(what) => write_absent(err, what),
         Ending::NotWritten(why) => write_unwritten(err, why),

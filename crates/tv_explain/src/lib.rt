@@ -3,23 +3,30 @@
 
 ghost use Rattle.std.specs.Prelude.{◌≡◌, ◌≤◌};
 ghost use Rattle.tv_outside.specs.Count.{Rose};
-ghost use Rattle.tv_explain.specs.Begins.{BeginsFor, OnAnswer};
-ghost use Rattle.tv_explain.specs.Call.{Commands, HasDone, HoldsOperands, UnlessFault};
+ghost use Rattle.tv_explain.specs.Begins.{BeginsFor, BeginsNoMore, OnAnswer};
+ghost use Rattle.tv_explain.specs.Call.{Commands, IsEnded, HoldsOperands, UnlessFault};
+ghost use Rattle.tv_explain.specs.Due.{EndsAsOwed, MayStand};
+ghost use Rattle.tv_explain.specs.declared.fault.Ending.TheVariants.{As};
 ghost use Rattle.tv_explain_words.specs.Words.{SpellsNothing};
-ghost use Rattle.tv_texts.specs.Delivery.{StopsAtFailure};
+ghost use Rattle.tv_status.specs.declared.status.Status.TheVariants.{Memory};
+ghost use Rattle.tv_status.specs.Delivery.{StopsAtFailure};
 ghost use Rattle.tv_words.specs.Words.{words_of};
 
 mod answers;
 mod delivery;
 mod fault;
 mod inputs;
+mod laws;
 mod work;
 
 pub use fault::{Ending, Sought, Unwritten};
+pub use laws::{edges_are_kept, silence_is_no_line};
 use std::alloc::Global;
 use tv_explain_words::one_command;
+use tv_lex::one_reading;
 use tv_outside::{Files, Sink};
 pub use tv_status::{FileKind, Role, Status};
+use tv_texts::one_meaning_each;
 
 /// Does all that the program does: `words` are the words after its name.
 ///
@@ -36,7 +43,7 @@ pub fn explain<F: Files, O: Sink, E: Sink>(
     err: &mut E,
 ) -> Ending
     // What was found, and where it was given.
-    ensures done { HasDone (words_of words.now) (F.holds files.old)
+    ensures done { IsEnded (words_of words.now) (F.holds files.old)
         (Rose (F.faults files.old) (F.faults files.new)) (F.steady files.old)
         (Rose (O.faults out.old) (O.faults out.new)) (Rose (E.faults err.old) (E.faults err.new))
         (O.taken out.old) (O.taken out.new) (E.taken err.old) (E.taken err.new) result }
@@ -46,12 +53,15 @@ pub fn explain<F: Files, O: Sink, E: Sink>(
     ensures err_stops { StopsAtFailure (E.failures err.old) (E.failures err.new) (E.since err.new) }
 
     // What was read: nothing without a command; where an answer is given, as many files were begun as the
-    // command asks for; and steady files that hold what is asked for don't fail, and stay steady.
+    // command asks for, and never more; and steady files that hold what is asked for don't fail, and stay
+    // steady.
     ensures unread { SpellsNothing (words_of words.now) → files.new ≡ files.old }
     ensures held { F.steady files.old → HoldsOperands (words_of words.now) (F.holds files.old)
         → F.steady files.new × (F.faults files.new ≡ F.faults files.old) }
     ensures begins { OnAnswer result (Commands (words_of words.now)
         (BeginsFor (F.holds files.old) (F.begins files.old) (F.begins files.new))) }
+    ensures most { BeginsNoMore (words_of words.now) (F.holds files.old) (F.begins files.old)
+        (F.begins files.new) }
     ensures stays { F.steady files.old → UnlessFault result (F.steady files.new) }
 
     // No call changes what a name holds, and no count of faults falls.
@@ -59,8 +69,19 @@ pub fn explain<F: Files, O: Sink, E: Sink>(
     ensures files_count { F.faults files.old ≤ F.faults files.new }
     ensures out_count { O.faults out.old ≤ O.faults out.new }
     ensures err_count { E.faults err.old ≤ E.faults err.new }
+
+    // Each ending comes wherever it is called for, unless a call outside failed or memory ran out; where no
+    // count of faults rose, unless memory ran out. Where over N structures are reached, `message` may have
+    // found its chain before.
+    ensures exact { EndsAsOwed (words_of words.now) (F.holds files.old) result (MayStand result) }
+    ensures complete { (¬ Rose (F.faults files.old) (F.faults files.new))
+        → (¬ Rose (O.faults out.old) (O.faults out.new))
+        → (¬ Rose (E.faults err.old) (E.faults err.new))
+        → EndsAsOwed (words_of words.now) (F.holds files.old) result (result ≡ As Memory) }
 {
     one_command();
+    one_meaning_each();
+    one_reading();
     let found = work::perform(alloc, words, files);
     delivery::deliver(found, out, err)
 }

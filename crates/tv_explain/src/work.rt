@@ -3,7 +3,7 @@
 ghost use Rattle.std.specs.Prelude.{◌≡◌, ◌≤◌, IfOk, IfErr, OnOk};
 ghost use Rattle.tv_outside.specs.Count.{Rose};
 ghost use Rattle.tv_explain.specs.Call.{Commands, IsAnswerTo, IsCause, IsCommandCause, UnlessReadFault};
-ghost use Rattle.tv_explain.specs.Begins.{BeginsFor};
+ghost use Rattle.tv_explain.specs.Begins.{FewBegins, BeginsFor, BeginsNoMore};
 ghost use Rattle.tv_explain.specs.Answers.{IsAnswer, IsText};
 ghost use Rattle.tv_explain_words.specs.Words.{Shows, ListsEdges, Compiles, SpellsNothing, TellsLosses};
 ghost use Rattle.tv_explain_words.specs.Words.{TellsMessage, TellsStructure, analyzed_of, form_of};
@@ -15,11 +15,10 @@ use crate::inputs::{load_drawn, load_inputs};
 use std::alloc::Global;
 use tv_compiled::compiled_text;
 use tv_compiled_laws::compiled_texts_are_programs;
-use tv_explain_source::load_source_text;
 use tv_explain_text::{edges_text, shown_text};
-use tv_explain_words::{Analyzed, Command, read_words};
+use tv_explain_words::{Analyzed, Command, one_command, read_words};
 use tv_outside::Files;
-use tv_texts::{load_program, load_report};
+use tv_texts::{load_program, load_report, load_source_text};
 
 /// The structures of the second of the named files, as a report on the program that the first means.
 #[tactic(auto, using(crate::proofs::Causes::holds_unless))]
@@ -36,6 +35,8 @@ fn show<F: Files>(
     ensures holds { F.holds files.new ≡ F.holds files.old }
     ensures begins { OnOk result (BeginsFor (F.holds files.old) (F.begins files.old) (F.begins files.new)
         (Shows program.now report.now)) }
+    ensures most { FewBegins (F.holds files.old) (F.begins files.old) (F.begins files.new)
+        (Shows program.now report.now) }
     ensures count { F.faults files.old ≤ F.faults files.new }
     ensures steady { F.steady files.old → UnlessReadFault result (F.steady files.new
         × (F.faults files.new ≡ F.faults files.old)) }
@@ -55,6 +56,8 @@ fn edges<F: Files>(alloc: Global, files: &mut F, program: &str) -> Result<Vec<u8
     ensures holds { F.holds files.new ≡ F.holds files.old }
     ensures begins { OnOk result (BeginsFor (F.holds files.old) (F.begins files.old) (F.begins files.new)
         (ListsEdges program.now)) }
+    ensures most { FewBegins (F.holds files.old) (F.begins files.old) (F.begins files.new)
+        (ListsEdges program.now) }
     ensures count { F.faults files.old ≤ F.faults files.new }
     ensures steady { F.steady files.old → UnlessReadFault result (F.steady files.new
         × (F.faults files.new ≡ F.faults files.old)) }
@@ -80,6 +83,8 @@ fn message<F: Files>(
     ensures holds { F.holds files.new ≡ F.holds files.old }
     ensures begins { OnOk result (BeginsFor (F.holds files.old) (F.begins files.old) (F.begins files.new)
         (TellsMessage (analyzed_of of.now) edge number)) }
+    ensures most { FewBegins (F.holds files.old) (F.begins files.old) (F.begins files.new)
+        (TellsMessage (analyzed_of of.now) edge number) }
     ensures count { F.faults files.old ≤ F.faults files.new }
     ensures steady { F.steady files.old → UnlessReadFault result (F.steady files.new
         × (F.faults files.new ≡ F.faults files.old)) }
@@ -105,6 +110,8 @@ fn structure<F: Files>(
     ensures holds { F.holds files.new ≡ F.holds files.old }
     ensures begins { OnOk result (BeginsFor (F.holds files.old) (F.begins files.old) (F.begins files.new)
         (TellsStructure (analyzed_of of.now) node.now index)) }
+    ensures most { FewBegins (F.holds files.old) (F.begins files.old) (F.begins files.new)
+        (TellsStructure (analyzed_of of.now) node.now index) }
     ensures count { F.faults files.old ≤ F.faults files.new }
     ensures steady { F.steady files.old → UnlessReadFault result (F.steady files.new
         × (F.faults files.new ≡ F.faults files.old)) }
@@ -122,6 +129,8 @@ fn losses<F: Files>(alloc: Global, files: &mut F, of: &Analyzed) -> Result<Answe
     ensures holds { F.holds files.new ≡ F.holds files.old }
     ensures begins { OnOk result (BeginsFor (F.holds files.old) (F.begins files.old) (F.begins files.new)
         (TellsLosses (analyzed_of of.now))) }
+    ensures most { FewBegins (F.holds files.old) (F.begins files.old) (F.begins files.new)
+        (TellsLosses (analyzed_of of.now)) }
     ensures count { F.faults files.old ≤ F.faults files.new }
     ensures steady { F.steady files.old → UnlessReadFault result (F.steady files.new
         × (F.faults files.new ≡ F.faults files.old)) }
@@ -140,6 +149,8 @@ fn compiled<F: Files>(alloc: Global, files: &mut F, source: &str) -> Result<Vec<
     ensures holds { F.holds files.new ≡ F.holds files.old }
     ensures begins { OnOk result (BeginsFor (F.holds files.old) (F.begins files.old) (F.begins files.new)
         (Compiles source.now)) }
+    ensures most { FewBegins (F.holds files.old) (F.begins files.old) (F.begins files.new)
+        (Compiles source.now) }
     ensures count { F.faults files.old ≤ F.faults files.new }
     ensures steady { F.steady files.old → UnlessReadFault result (F.steady files.new
         × (F.faults files.new ≡ F.faults files.old)) }
@@ -157,6 +168,8 @@ fn execute<F: Files>(alloc: Global, files: &mut F, command: &Command) -> Result<
     ensures holds { F.holds files.new ≡ F.holds files.old }
     ensures begins { OnOk result (BeginsFor (F.holds files.old) (F.begins files.old) (F.begins files.new)
         (form_of command.now)) }
+    ensures most { FewBegins (F.holds files.old) (F.begins files.old) (F.begins files.new)
+        (form_of command.now) }
     ensures count { F.faults files.old ≤ F.faults files.new }
     ensures steady { F.steady files.old → UnlessReadFault result (F.steady files.new
         × (F.faults files.new ≡ F.faults files.old)) }
@@ -172,7 +185,7 @@ fn execute<F: Files>(alloc: Global, files: &mut F, command: &Command) -> Result<
 }
 
 /// What the words ask for, or why they get nothing.
-#[tactic(auto, using(crate::proofs::Causes::spelled_answer, crate::proofs::Causes::holds_unless))]
+#[tactic(auto, using(crate::proofs::Causes::spelled_answer, crate::proofs::Causes::holds_unless, crate::proofs::Begins::unread_most))]
 pub fn perform<F: Files>(alloc: Global, words: &[String], files: &mut F) -> Result<Answer, Fault>
     ensures found { IfOk result (IsAnswerTo (words_of words.now) (F.holds files.old)) }
     ensures cause { IfErr result (IsCause (words_of words.now) (F.holds files.old)
@@ -181,10 +194,13 @@ pub fn perform<F: Files>(alloc: Global, words: &[String], files: &mut F) -> Resu
     ensures holds { F.holds files.new ≡ F.holds files.old }
     ensures begins { OnOk result (Commands (words_of words.now)
         (BeginsFor (F.holds files.old) (F.begins files.old) (F.begins files.new))) }
+    ensures most { BeginsNoMore (words_of words.now) (F.holds files.old) (F.begins files.old)
+        (F.begins files.new) }
     ensures count { F.faults files.old ≤ F.faults files.new }
     ensures steady { F.steady files.old → UnlessReadFault result (F.steady files.new
         × (F.faults files.new ≡ F.faults files.old)) }
 {
+    one_command();
     let Some(command) = read_words(alloc, words)? else {
         return Err(Fault::Usage);
     };

@@ -3,6 +3,7 @@
 ghost use Rattle.std.specs.Prelude.{ℕ, ◌≡◌, List};
 ghost use Rattle.tv_model.specs.Program.{ProgramForm};
 ghost use Rattle.tv_front.specs.Meaning.{Means, IsRefused, without_place};
+ghost use Rattle.tv_front.specs.ReadAgain.{ProgramsAreReadAgain};
 ghost use Rattle.tv_front.specs.declared.fault.ProgramFault.{ProgramFault};
 
 use tv_lex::one_reading;
@@ -26,3 +27,8 @@ pub fn one_refusal()
     one_reading();
     one_tree();
 }
+
+/// The printed text of a program that was read is read as that program again.
+pub fn programs_are_read_again()
+    ensures { ProgramsAreReadAgain }
+{}

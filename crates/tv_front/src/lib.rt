@@ -4,10 +4,12 @@
 mod fault;
 mod front;
 mod laws;
+mod understood;
 
 pub use fault::ProgramFault;
 pub use front::read_program;
-pub use laws::{one_meaning, one_refusal};
+pub use laws::{one_meaning, one_refusal, programs_are_read_again};
+pub use understood::{Understood, understand};
 
 #[cfg(test)]
 mod tests;

@@ -9,6 +9,7 @@ pub mod Meeting
 pub mod Following
 pub mod Greatest
 pub mod Rounding
+pub mod Placed
 mod Single
 pub mod Answering
 pub mod Entries

@@ -1,33 +1,15 @@
--- What a joined analysis is asked.
-use Rattle.std.specs.Prelude.{ℕ, ◌≡◌, All, length}
-use Rattle.tv_model.specs.Program.{ProgramForm, program_of}
-use Rattle.tv_model.specs.Valid.{IsValid}
-use Rattle.tv_eval.specs.ScratchForm.{ScratchForm, IsMadeFor}
-use Rattle.tv_structure_form.specs.StructureForm.{IsOver}
-use Rattle.tv_work.specs.Leaving.{AreLeaving}
+-- What the rounds of a task list, and why they don't end.
+use Rattle.std.specs.Prelude.{ℕ}
 use Rattle.tv_work.specs.Reach.{Point}
 use Rattle.tv_work.specs.Task.{TaskForm}
-use Rattle.tv_join.specs.Flags.{key_flags}
+use Rattle.tv_work.specs.declared.error.WorkError.{WorkError}
+use Rattle.tv_join.specs.Joined.{IsJoinCause}
 use Rattle.tv_join.specs.Rounds.{IsInRound}
-use Rattle.tv_join.specs.declared.task.Task.{Task}
-
-abbrev pub form_in : Task → ProgramForm
-form_in x = program_of x.program.now
-
-abbrev pub task_of : Task → TaskForm
-task_of x = record { program = form_in x; mode = x.mode; initial = x.initial.now; max = x.max }
 
 -- the points that a round lists
 abbrev pub round_in : TaskForm → (round : ℕ) → Point → Type 0
 round_in t round = IsInRound t.program t.mode t.initial round
 
--- the program is valid, the engine is that of the program and the mode, the edges are listed by their
--- sources, the flags are those of its keys, the initial structures are over the vocabulary, and the scratch
--- was made for the program
-pub record IsReady (x : Task) (scratch : ScratchForm) : Type 0 where
-  pub valid : IsValid (form_in x)
-  pub engine : x.engine.now ≡ record { program = x.program.now; mode = x.mode }
-  pub leaving : AreLeaving (form_in x).edges (length (form_in x).nodes) x.leaving.now
-  pub counted : x.counted.now ≡ key_flags (form_in x)
-  pub initial : All (IsOver x.program.now.vocab) x.initial.now
-  pub room : IsMadeFor (form_in x) 256 scratch
+-- why the rounds of the task have no answer
+abbrev pub IsRoundsCause : TaskForm → WorkError → Type 0
+IsRoundsCause t = IsJoinCause t.program t.mode t.initial t.max

@@ -11,15 +11,14 @@ ghost use Rattle.tv_join.specs.Flags.{is_counted, key_flags};
 ghost use Rattle.tv_join.specs.Joined.{IsJoined, IsJoinCause};
 ghost use Rattle.tv_join.specs.State.{listing_of};
 
+use crate::keyed::KeyedTask;
 use crate::rounds::{Ended, all_rounds};
-use crate::task::Task;
 use std::alloc::{AllocError, Global};
-use tv_eval::Scratch;
 use tv_listing::Analysis;
 use tv_model::{Mode, Pred, Program};
-use tv_step::Engine;
+use tv_step::Stepper;
 use tv_struct::Structures;
-use tv_work::{WorkError, analysis_of, leaving_edges};
+use tv_work::{Task, WorkError, analysis_of, leaving_edges};
 
 /// For each predicate whether it counts for keys: it is nullary, or individuals are told apart by it.
 fn key_flags(alloc: Global, program: &Program) -> Result<Vec<bool>, AllocError>
@@ -74,20 +73,21 @@ pub fn analyze_joined(
         a.messages) }
     ensures cause { IfErr result (IsJoinCause (program_of program.now) mode initial.now max) }
 {
-    let engine = Engine::new(alloc, program, mode)?;
+    let mut stepper = Stepper::new(alloc, program, mode)?;
     let leaving = leaving_edges(alloc, program)?;
     let counted = key_flags(alloc, program)?;
-    let mut scratch = Scratch::new(alloc, program, 256)?;
     let task = Task {
         alloc,
         program,
-        engine: &engine,
         leaving: &leaving,
-        counted: &counted,
         initial: initial.as_slice(),
         mode,
         max,
     };
-    let ended = all_rounds(&task, &mut scratch)?;
+    let keyed = KeyedTask {
+        task,
+        counted: &counted,
+    };
+    let ended = all_rounds(&keyed, &mut stepper)?;
     Ok(answer(alloc, ended)?)
 }

@@ -3,18 +3,19 @@
 ghost use Rattle.std.specs.Prelude.{◌≡◌, ◌≢◌, ◌<◌, ◌≤◌, ◌^◌, ℕ, [], All, Contains, None, Some, IfOk, IfErr};
 ghost use Rattle.std.specs.Prelude.{MatchBool, OnOk, length, replicate, slice_set};
 ghost use Rattle.tv_listing.specs.ListingForm.{at_node};
+ghost use Rattle.tv_model.specs.Program.{program_of};
 ghost use Rattle.tv_model.specs.Valid.{IsValid};
+ghost use Rattle.tv_work.specs.Task.{task_of};
 ghost use Rattle.tv_join.specs.Keyed.{AreFlags};
 ghost use Rattle.tv_join.specs.Members.{IsIndexed};
 ghost use Rattle.tv_join.specs.Flags.{key_flags};
 ghost use Rattle.tv_join.specs.State.{JoinsForm, no_members, members_at, less, room_after, NotesPut};
 ghost use Rattle.tv_join.specs.State.{IsPut, IsMet, IsJoinState, StandsAt, total_of};
 ghost use Rattle.tv_join.specs.Stepped.{IsPlacedFound, HaveMet, IsMeetingCause};
-ghost use Rattle.tv_join.specs.Task.{task_of, form_in};
 
+use crate::keyed::KeyedTask;
 use crate::members::{Members, Put};
 use crate::places::{Place, Places};
-use crate::task::Task;
 use std::alloc::{AllocError, Global};
 use std::marker::Model;
 use std::mem;
@@ -84,15 +85,15 @@ impl Joins {
 
     /// Joins what was found into what is listed, where nothing has changed, and notes the places of what
     /// changes. `Structures` where too many are then listed.
-    pub fn meet_all(&mut self, x: &Task, found: Vec<Found>) -> Result<(), WorkError>
-        requires valid { IsValid (form_in x.now) }
-        requires flags { x.now.counted.now ≡ key_flags (form_in x.now) }
-        requires kept { IsJoinState (task_of x.now) self.old }
+    pub fn meet_all(&mut self, x: &KeyedTask, found: Vec<Found>) -> Result<(), WorkError>
+        requires valid { IsValid (program_of x.now.task.program.now) }
+        requires flags { x.now.counted.now ≡ key_flags (program_of x.now.task.program.now) }
+        requires kept { IsJoinState (task_of x.now.task) self.old }
         requires none { self.old.changed ≡ [] }
-        requires placed { All (IsPlacedFound (task_of x.now)) found.items }
-        ensures met { OnOk result (HaveMet (task_of x.now) self.old found.items self.new) }
-        ensures within { OnOk result (total_of self.new.nodes ≤ x.now.max) }
-        ensures cause { IfErr result (IsMeetingCause (task_of x.now) self.old found.items self.new) }
+        requires placed { All (IsPlacedFound (task_of x.now.task)) found.items }
+        ensures met { OnOk result (HaveMet (task_of x.now.task) self.old found.items self.new) }
+        ensures within { OnOk result (total_of self.new.nodes ≤ x.now.task.max) }
+        ensures cause { IfErr result (IsMeetingCause (task_of x.now.task) self.old found.items self.new) }
     {
         for f in found {
             self.meet(x, f)?;
@@ -114,7 +115,7 @@ impl Joins {
     }
 
     /// Joins a structure into what is listed at its node.
-    fn meet(&mut self, x: &Task, found: Found) -> Result<(), AllocError>
+    fn meet(&mut self, x: &KeyedTask, found: Found) -> Result<(), AllocError>
         requires node { found.node < length self.old.nodes }
         requires flags { AreFlags x.now.counted.now found.structure }
         requires unmarked { found.structure.fresh ≡ None }
@@ -129,7 +130,7 @@ impl Joins {
     }
 
     /// Puts the structure among those of the node.
-    fn put(&mut self, x: &Task, node: u32, s: Structure) -> Result<Put, AllocError>
+    fn put(&mut self, x: &KeyedTask, node: u32, s: Structure) -> Result<Put, AllocError>
         requires node { node < length self.old.nodes }
         requires flags { AreFlags x.now.counted.now s }
         requires unmarked { s.fresh ≡ None }
@@ -137,7 +138,7 @@ impl Joins {
         ensures { IfOk result (IsPut x.now.counted.now self.old node s self.new) }
     {
         let at = &mut self.nodes[node as usize];
-        at.put(x.alloc, x.counted, s)
+        at.put(x.task.alloc, x.counted, s)
     }
 
     /// Notes what became of a structure that was put among those of the node, which were so many.

@@ -68,8 +68,8 @@ fn copy_value(t: &mut Structure, s: &Structure, p: PredId)
     t.set(p, Tuple::Zero, s.get(p, Tuple::Zero));
 }
 
-/// The same for a unary predicate: nothing has to be put where it is `No` everywhere, as most are in a
-/// program of many variables.
+/// Copies the values of a unary predicate. Nothing has to be put where it is `No` everywhere, as most are in
+/// a program of many variables.
 fn copy_row(t: &mut Structure, s: &Structure, p: PredId)
     requires size { t.old.size ≡ s.now.size }
     requires over { arities_of t.old ≡ arities_of s.now }

@@ -6,12 +6,12 @@ mod follow;
 mod joined;
 mod joins;
 mod key;
+mod keyed;
 mod laws;
 mod members;
 mod pairwise;
 mod places;
 mod rounds;
-mod task;
 mod telling;
 mod values;
 

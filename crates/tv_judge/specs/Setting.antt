@@ -1,7 +1,7 @@
 -- What the tests of a report go by.
 use Rattle.std.specs.Prelude.{◌≡◌, ◌<◌, ◌^◌, length, All}
 use Rattle.tv_listing.specs.Listed.{IsListing}
-use Rattle.tv_model.specs.Program.{ProgramForm, program_of}
+use Rattle.tv_model.specs.Program.{program_of}
 use Rattle.tv_model.specs.Valid.{IsValid}
 use Rattle.tv_structure_form.specs.StructureForm.{IsOver}
 use Rattle.tv_judge.specs.Index.{IsLineIndex, IsMessageIndex}
@@ -9,21 +9,16 @@ use Rattle.tv_judge.specs.Judged.{Case}
 use Rattle.tv_judge.specs.Verdicts.{case_of}
 use Rattle.tv_judge.specs.declared.setting.Setting.{Setting}
 
--- the program of a setting
-abbrev pub form_in : Setting → ProgramForm
-form_in x = program_of x.program.now
-
 -- what is judged
 abbrev pub case_in : Setting → Case
 case_in x = case_of x.program.now x.mode x.initial.now x.analysis.now
 
 -- what `judge` asks for, and what is made of it before the tests
 pub record IsReadyToJudge (x : Setting) : Type 0 where
-  pub valid : IsValid (form_in x)
+  pub valid : IsValid (program_of x.program.now)
   pub initial : All (IsOver x.program.now.vocab) x.initial.now
   pub few : length x.initial.now < 2 ^ 32
   pub listing : IsListing x.program.now x.analysis.now.listing
-  pub engine : x.engine.now ≡ record { program = x.program.now; mode = x.mode }
   pub lines : IsLineIndex x.lines.now.entries x.analysis.now.maps
   pub said : IsMessageIndex x.said.now.keys x.analysis.now.messages
   pub targets : x.targets.now ≡ x.analysis.now.listing

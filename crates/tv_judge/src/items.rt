@@ -3,6 +3,7 @@
 ghost use Rattle.std.specs.Prelude.{◌≡◌, ◌<◌, ◌++◌, ◌∷◌, [], ◌↔◌, IsTrue, All, length, IfOk};
 ghost use Rattle.std.specs.Prelude.{IfErr, IfSome, IfNone, IsSome, None, OnOk};
 ghost use Rattle.tv_listing.specs.ListingForm.{at_node};
+ghost use Rattle.tv_model.specs.Program.{program_of};
 ghost use Rattle.tv_model.specs.Valid.{program_arities};
 ghost use Rattle.tv_structure_form.specs.StructureForm.{arities_of};
 ghost use Rattle.tv_step_laws.specs.Closed.{IsCovered};
@@ -11,7 +12,7 @@ ghost use Rattle.tv_judge.specs.Items.{Covers, IsMet, own_line};
 ghost use Rattle.tv_judge.specs.Judged.{IsThere, demand_order, Covering};
 ghost use Rattle.tv_judge.specs.Found.{IsStableIn, IsTestedTo};
 ghost use Rattle.tv_judge.specs.Progress.{IsLineFor, IsStop, behind, rejection_for};
-ghost use Rattle.tv_judge.specs.Setting.{IsReadyToJudge, case_in, form_in};
+ghost use Rattle.tv_judge.specs.Setting.{IsReadyToJudge, case_in};
 
 use crate::found::{Found, note_stable};
 use crate::index::line_of;
@@ -49,7 +50,7 @@ fn copied(alloc: Global, line: &MapLine) -> Result<MapLine, AllocError>
 fn first_cover(x: &Setting, node: u32, s: &Structure) -> Result<Option<(u32, Numbers)>, AllocError>
     requires ready { IsReadyToJudge x.now }
     requires node { node < length x.now.analysis.now.listing }
-    requires over { arities_of s.now ≡ program_arities (form_in x.now) }
+    requires over { arities_of s.now ≡ program_arities (program_of x.now.program.now) }
     ensures some { IfOk result (λ found. IfSome found (λ y.
         IsFirstCover (at_node x.now.analysis.now.listing node) s.now y.0 y.1)) }
     ensures none { IfOk result
@@ -68,7 +69,7 @@ fn owed_line(
 ) -> Result<Option<MapLine>, AllocError>
     requires ready { IsReadyToJudge x.now }
     requires node { node < length x.now.analysis.now.listing }
-    requires over { arities_of s.now ≡ program_arities (form_in x.now) }
+    requires over { arities_of s.now ≡ program_arities (program_of x.now.program.now) }
     ensures some { IfOk result (λ found. IfSome found (IsLineFor x.now.analysis.now.maps item
         (at_node x.now.analysis.now.listing node) s.now)) }
     ensures none { IfOk result (λ found. IfNone found (¬ IsMet x.now.analysis.now.maps item
@@ -134,7 +135,7 @@ pub fn test_item(
 ) -> Result<(), Stop>
     requires ready { IsReadyToJudge x.now }
     requires node { node < length x.now.analysis.now.listing }
-    requires over { arities_of s.now ≡ program_arities (form_in x.now) }
+    requires over { arities_of s.now ≡ program_arities (program_of x.now.program.now) }
     requires stable { IsStableIn (case_in x.now) s.now }
     requires there { IsThere (case_in x.now) item s.now (at_node x.now.analysis.now.listing node) }
     requires so_far { IsTestedTo (case_in x.now) x.now.asked (demand_order (Covering item)) found.old }

@@ -9,11 +9,10 @@ use std::alloc::{AllocError, AllocFailed, Global};
 use tv_cover::Targets;
 use tv_listing::{Analysis, Rejection};
 use tv_model::{Mode, Program};
-use tv_step::Engine;
 use tv_struct::{StageError, Structures};
 
-/// A report on a program with initial structures, whether the lines of its items are asked for, the engine of
-/// the program's steps, the report's lines, where its structures are listed, and the structures of each node.
+/// A report on a program with initial structures, whether the lines of its items are asked for, the report's
+/// lines, where its structures are listed, and the structures of each node.
 #[derive(Clone, Copy)]
 pub struct Setting<'a, 'b> {
     pub alloc: Global,
@@ -22,7 +21,6 @@ pub struct Setting<'a, 'b> {
     pub initial: &'a Structures,
     pub analysis: &'a Analysis,
     pub asked: bool,
-    pub engine: &'b Engine<'a>,
     pub lines: &'b LinesByItem<'a>,
     pub said: &'b Said,
     pub places: &'b PlacesBySignature,

@@ -3,8 +3,8 @@
 ghost use Rattle.std.specs.Prelude.{◌≡◌, ◌≢◌, ◌<◌, ◌+◌, ◌∷◌, [], ◌↔◌, IsTrue, All, length, slice_get, Some};
 ghost use Rattle.std.specs.Prelude.{IfOk, IfErr, IfSome, IfNone, OnOk};
 ghost use Rattle.tv_kleene.specs.declared.K3.TheVariants.{No};
-ghost use Rattle.tv_eval.specs.ScratchForm.{IsMadeFor};
 ghost use Rattle.tv_listing.specs.ListingForm.{at_node};
+ghost use Rattle.tv_model.specs.Program.{program_of};
 ghost use Rattle.tv_model.specs.Valid.{program_arities};
 ghost use Rattle.tv_structure_form.specs.StructureForm.{IsOver, arities_of};
 ghost use Rattle.tv_step_laws.specs.Closed.{HasLine};
@@ -13,18 +13,17 @@ ghost use Rattle.tv_step_laws.specs.Transfer.{HasNoOpening, IsOpening};
 ghost use Rattle.tv_judge.specs.Found.{IsStableIn, IsTestedTo};
 ghost use Rattle.tv_judge.specs.Progress.{AreResultsAt, AreSaidBelow, AreValuesAt, IsDone, IsFirstUnsaid};
 ghost use Rattle.tv_judge.specs.Progress.{IsStop};
-ghost use Rattle.tv_judge.specs.Setting.{IsReadyToJudge, case_in, form_in};
+ghost use Rattle.tv_judge.specs.Setting.{IsReadyToJudge, case_in};
 ghost use Rattle.tv_step.specs.StepAnswer.{AnswersStep};
 
 use crate::found::Found;
 use crate::items::test_item;
 use crate::setting::{Setting, Stop};
 use std::alloc::AllocError;
-use tv_eval::Scratch;
 use tv_kleene::K3;
 use tv_listing::{Item, MapLines, Rejection};
 use tv_model::{Edge, Program};
-use tv_step::StepOut;
+use tv_step::{StepOut, Stepper};
 use tv_struct::{StageError, Structure};
 
 /// A listed structure, by an edge and its place among those of the edge's source, and the edge's target.
@@ -39,52 +38,52 @@ pub struct Source {
 fn opening_of(
     x: &Setting,
     s: &Structure,
-    scratch: &mut Scratch,
+    stepper: &mut Stepper,
 ) -> Result<Option<Structure>, AllocError>
     requires ready { IsReadyToJudge x.now }
     requires over { IsOver x.now.program.now.vocab s.now }
-    requires room { IsMadeFor (form_in x.now) 256 scratch.old }
-    ensures some { IfOk result (λ found. IfSome found (IsOpening (form_in x.now) s.now)) }
-    ensures none { IfOk result (λ found. IfNone found (HasNoOpening (form_in x.now) s.now)) }
-    ensures settled { IfOk result (λ found. IfSome found (IsSettled (form_in x.now))) }
-    ensures scratch { scratch.new ≡ scratch.old }
+    requires stepper { stepper.old ≡ record { program = x.now.program.now; mode = x.now.mode } }
+    ensures some { IfOk result (λ found. IfSome found (IsOpening (program_of x.now.program.now) s.now)) }
+    ensures none { IfOk result (λ found. IfNone found (HasNoOpening (program_of x.now.program.now) s.now)) }
+    ensures settled { IfOk result (λ found. IfSome found (IsSettled (program_of x.now.program.now))) }
+    ensures same { stepper.new ≡ stepper.old }
 {
-    x.engine.opening(s, scratch)
+    stepper.opening(s)
 }
 
 /// Tests the opening of the initial structure of this number.
 fn test_opening(
     x: &Setting,
     number: u32,
-    scratch: &mut Scratch,
+    stepper: &mut Stepper,
     found: &mut Found,
 ) -> Result<(), Stop>
     requires ready { IsReadyToJudge x.now }
     requires number { number < length x.now.initial.now }
-    requires room { IsMadeFor (form_in x.now) 256 scratch.old }
+    requires stepper { stepper.old ≡ record { program = x.now.program.now; mode = x.now.mode } }
     requires so_far { IsTestedTo (case_in x.now) x.now.asked (0 ∷ number ∷ []) found.old }
     ensures next { OnOk result (IsTestedTo (case_in x.now) x.now.asked (0 ∷ (number + 1) ∷ []) found.new) }
     ensures stop { IfErr result (IsStop (case_in x.now)) }
-    ensures scratch { scratch.new ≡ scratch.old }
+    ensures same { stepper.new ≡ stepper.old }
 {
     let s = &x.initial.as_slice()[number as usize];
-    match opening_of(x, s, scratch)? {
+    match opening_of(x, s, stepper)? {
         None => Ok(()),
         Some(t) => test_item(x, Item::Initial(number), 0, &t, found),
     }
 }
 
 /// Tests the openings of all initial structures.
-fn test_openings(x: &Setting, scratch: &mut Scratch, found: &mut Found) -> Result<(), Stop>
+fn test_openings(x: &Setting, stepper: &mut Stepper, found: &mut Found) -> Result<(), Stop>
     requires ready { IsReadyToJudge x.now }
-    requires room { IsMadeFor (form_in x.now) 256 scratch.old }
+    requires stepper { stepper.old ≡ record { program = x.now.program.now; mode = x.now.mode } }
     requires so_far { IsTestedTo (case_in x.now) x.now.asked (0 ∷ 0 ∷ []) found.old }
     ensures next { OnOk result (IsTestedTo (case_in x.now) x.now.asked (1 ∷ 0 ∷ []) found.new) }
     ensures stop { IfErr result (IsStop (case_in x.now)) }
-    ensures scratch { scratch.new ≡ scratch.old }
+    ensures same { stepper.new ≡ stepper.old }
 {
     for number in 0..x.initial.len() {
-        test_opening(x, number as u32, scratch, found)?;
+        test_opening(x, number as u32, stepper, found)?;
     }
     Ok(())
 }
@@ -98,7 +97,7 @@ fn test_results(
 ) -> Result<(), Stop>
     requires ready { IsReadyToJudge x.now }
     requires results { AreResultsAt (case_in x.now) at.edge at.structure at.to results.now }
-    requires over { All (λ s. arities_of s ≡ program_arities (form_in x.now)) results.now }
+    requires over { All (λ s. arities_of s ≡ program_arities (program_of x.now.program.now)) results.now }
     requires stable { All (IsStableIn (case_in x.now)) results.now }
     requires node { at.to < length x.now.analysis.now.listing }
     requires so_far { IsTestedTo (case_in x.now) x.now.asked
@@ -158,17 +157,17 @@ fn step_of(
     edge: u32,
     from: &Structure,
     is_stable: bool,
-    scratch: &mut Scratch,
+    stepper: &mut Stepper,
 ) -> Result<StepOut, StageError>
     requires ready { IsReadyToJudge x.now }
     requires edge { edge < length x.now.program.now.edges }
     requires over { IsOver x.now.program.now.vocab from.now }
     requires stable { IsTrue is_stable → IsStableIn (case_in x.now) from.now }
-    requires room { IsMadeFor (form_in x.now) 256 scratch.old }
-    ensures step { AnswersStep (form_in x.now) x.now.mode edge from.now result }
-    ensures scratch { scratch.new ≡ scratch.old }
+    requires stepper { stepper.old ≡ record { program = x.now.program.now; mode = x.now.mode } }
+    ensures step { AnswersStep (program_of x.now.program.now) x.now.mode edge from.now result }
+    ensures same { stepper.new ≡ stepper.old }
 {
-    x.engine.step_of(edge, from, is_stable, scratch)
+    stepper.step_of(edge, from, is_stable)
 }
 
 /// Tests the step of the listed structure of this place along the edge, its results and its messages.
@@ -177,22 +176,22 @@ fn test_step(
     edge: u32,
     taken: Edge,
     structure: u32,
-    scratch: &mut Scratch,
+    stepper: &mut Stepper,
     found: &mut Found,
 ) -> Result<(), Stop>
     requires ready { IsReadyToJudge x.now }
     requires edge { slice_get x.now.program.now.edges edge ≡ Some taken }
     requires structure { structure < length (at_node x.now.analysis.now.listing taken.from) }
-    requires room { IsMadeFor (form_in x.now) 256 scratch.old }
+    requires stepper { stepper.old ≡ record { program = x.now.program.now; mode = x.now.mode } }
     requires so_far { IsTestedTo (case_in x.now) x.now.asked (1 ∷ edge ∷ structure ∷ []) found.old }
     ensures next { OnOk result
         (IsTestedTo (case_in x.now) x.now.asked (1 ∷ edge ∷ (structure + 1) ∷ []) found.new) }
     ensures stop { IfErr result (IsStop (case_in x.now)) }
-    ensures scratch { scratch.new ≡ scratch.old }
+    ensures same { stepper.new ≡ stepper.old }
 {
     let from = x.analysis.listing.at(taken.from, structure as usize);
     let is_stable = found.is_stable(taken.from, structure);
-    let out = step_of(x, edge, from, is_stable, scratch)?;
+    let out = step_of(x, edge, from, is_stable, stepper)?;
     let at = Source {
         edge,
         structure,
@@ -214,33 +213,33 @@ fn edge_at(program: &Program, edge: u32) -> Edge
 }
 
 /// Tests the steps of all listed structures along the edge.
-fn test_edge(x: &Setting, edge: u32, scratch: &mut Scratch, found: &mut Found) -> Result<(), Stop>
+fn test_edge(x: &Setting, edge: u32, stepper: &mut Stepper, found: &mut Found) -> Result<(), Stop>
     requires ready { IsReadyToJudge x.now }
     requires edge { edge < length x.now.program.now.edges }
-    requires room { IsMadeFor (form_in x.now) 256 scratch.old }
+    requires stepper { stepper.old ≡ record { program = x.now.program.now; mode = x.now.mode } }
     requires so_far { IsTestedTo (case_in x.now) x.now.asked (1 ∷ edge ∷ []) found.old }
     ensures next { OnOk result (IsTestedTo (case_in x.now) x.now.asked (1 ∷ (edge + 1) ∷ []) found.new) }
     ensures stop { IfErr result (IsStop (case_in x.now)) }
-    ensures scratch { scratch.new ≡ scratch.old }
+    ensures same { stepper.new ≡ stepper.old }
 {
     let taken = edge_at(x.program, edge);
     for structure in 0..x.analysis.listing.count(taken.from) {
-        test_step(x, edge, taken, structure as u32, scratch, found)?;
+        test_step(x, edge, taken, structure as u32, stepper, found)?;
     }
     Ok(())
 }
 
 /// Tests all demands in order, and gives the lines of all items, where they are asked for.
-pub fn test_report(x: &Setting, scratch: &mut Scratch) -> Result<MapLines, Stop>
+pub fn test_report(x: &Setting, stepper: &mut Stepper) -> Result<MapLines, Stop>
     requires ready { IsReadyToJudge x.now }
-    requires room { IsMadeFor (form_in x.now) 256 scratch.old }
+    requires stepper { stepper.old ≡ record { program = x.now.program.now; mode = x.now.mode } }
     ensures done { IfOk result (IsDone (case_in x.now) x.now.asked) }
     ensures stop { IfErr result (IsStop (case_in x.now)) }
 {
     let mut found = Found::new(x.alloc);
-    test_openings(x, scratch, &mut found)?;
+    test_openings(x, stepper, &mut found)?;
     for edge in 0..x.program.edges.len() {
-        test_edge(x, edge as u32, scratch, &mut found)?;
+        test_edge(x, edge as u32, stepper, &mut found)?;
     }
     let Found { maps, stable: _ } = found;
     Ok(maps)

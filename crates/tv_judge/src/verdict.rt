@@ -14,10 +14,9 @@ use crate::setting::{Setting, Stop};
 use crate::steps::test_report;
 use std::alloc::Global;
 use tv_cover::all_targets;
-use tv_eval::Scratch;
 use tv_listing::{Analysis, MapLines, Rejection};
 use tv_model::{Mode, Program};
-use tv_step::Engine;
+use tv_step::Stepper;
 use tv_struct::{StageError, Structures};
 
 /// What the checker says of a report: accepted, with a map for each item that has to be covered, or
@@ -44,8 +43,7 @@ fn tested<'a>(
     ensures done { IfOk result (IsDone (case_of program.now mode initial.now analysis.now) asked) }
     ensures stop { IfErr result (IsStop (case_of program.now mode initial.now analysis.now)) }
 {
-    let engine = Engine::new(alloc, program, mode)?;
-    let mut scratch = Scratch::new(alloc, program, 256)?;
+    let mut stepper = Stepper::new(alloc, program, mode)?;
     let lines = lines_by_item(alloc, analysis.maps.as_slice())?;
     let said = said_in(alloc, analysis.messages.as_slice())?;
     let nodes = program.nodes.len();
@@ -58,13 +56,12 @@ fn tested<'a>(
         initial,
         analysis,
         asked,
-        engine: &engine,
         lines: &lines,
         said: &said,
         places: &places,
         targets: targets.as_slice(),
     };
-    test_report(&x, &mut scratch)
+    test_report(&x, &mut stepper)
 }
 
 /// Whether the report is closed. It is tested in order: the openings of initial structures; then edge by

@@ -11,33 +11,30 @@ use Rattle.tv_work.specs.declared.error.WorkError.{WorkError}
 use Rattle.tv_losses.specs.Losses.{AreLosses, AreLossesIn}
 use Rattle.tv_losses.specs.declared.told.Losses.{Losses}
 
-module _ (p : ProgramForm) (mode own_mode : Mode) (initial own_initial : List StructureForm)
-    (same_mode : own_mode ≡ mode) (same_initial : own_initial ≡ initial) (max : ℕ)
-    (r : Result Losses WorkError) where
+module _ (p : ProgramForm) (mode : Mode) (initial own_initial : List StructureForm)
+    (same_initial : own_initial ≡ initial) (max : ℕ) (r : Result Losses WorkError) where
   pub are-losses : (listing : List (List StructureForm)) (lines : List MessageLine)
-      → IsAnalysis p mode initial max listing lines → IfOk r (AreLossesIn p own_mode own_initial listing)
+      → IsAnalysis p mode initial max listing lines → IfOk r (AreLossesIn p mode own_initial listing)
       → IfOk r (AreLosses p mode initial max)
   are-losses listing lines analysis are = by r are
     where
-      by : (r : Result Losses WorkError) → IfOk r (AreLossesIn p own_mode own_initial listing)
+      by : (r : Result Losses WorkError) → IfOk r (AreLossesIn p mode own_initial listing)
           → IfOk r (AreLosses p mode initial max)
       by (Ok losses) are = record {
         listing = listing;
         lines = lines;
         analysis = analysis;
-        are = subst (λ ss. AreLossesIn p mode ss listing losses) same_initial
-            (subst (λ m. AreLossesIn p m own_initial listing losses) same_mode are);
+        are = subst (λ ss. AreLossesIn p mode ss listing losses) same_initial are;
       }
       by (Err e) are = tt
 
-  pub work-cause : IfErr r (λ e. (most : ℕ) → IsWorkCause p most (IsReached p own_mode own_initial) e)
+  pub work-cause : IfErr r (λ e. (most : ℕ) → IsWorkCause p most (IsReached p mode own_initial) e)
       → IfErr r (IsWorkCause p max (IsReached p mode initial))
   work-cause causes = by r causes
     where
       by : (r : Result Losses WorkError)
-          → IfErr r (λ e. (most : ℕ) → IsWorkCause p most (IsReached p own_mode own_initial) e)
+          → IfErr r (λ e. (most : ℕ) → IsWorkCause p most (IsReached p mode own_initial) e)
           → IfErr r (IsWorkCause p max (IsReached p mode initial))
       by (Ok losses) causes = tt
       by (Err e) causes =
-          subst (λ ss. IsWorkCause p max (IsReached p mode ss) e) same_initial
-          (subst (λ m. IsWorkCause p max (IsReached p m own_initial) e) same_mode (causes max))
+          subst (λ ss. IsWorkCause p max (IsReached p mode ss) e) same_initial (causes max)

@@ -1,4 +1,5 @@
 mod Exactly
 mod Losing
+mod Searching
 mod Telling
 mod Answering

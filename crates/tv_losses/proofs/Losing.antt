@@ -12,7 +12,7 @@ use Rattle.std.proofs.lemmas.List.Elements.{All-contains}
 use Rattle.tv_listing.specs.ListingForm.{at_node}
 use Rattle.tv_model.specs.declared.program.Edge.{Edge}
 use Rattle.tv_model.specs.declared.program.Mode.{Mode}
-use Rattle.tv_model.specs.Program.{ProgramForm, ActionForm}
+use Rattle.tv_model.specs.Program.{ProgramForm, ActionForm, program_of}
 use Rattle.tv_model.specs.Valid.{IsEdge, IsValid}
 use Rattle.tv_model.proofs.Lists.{Contains-none, slice_get-contains}
 use Rattle.tv_structure_form.specs.StructureForm.{StructureForm, IsOver, IsStructure, structure_of}
@@ -22,12 +22,12 @@ use Rattle.tv_step_laws.specs.Budgets.{IsStepCause}
 use Rattle.tv_step_laws.specs.Transfer.{AreResults, HasNoOpening, IsActionOf, IsOpening}
 use Rattle.tv_step_laws.proofs.Exact.{results-once}
 use Rattle.tv_step_laws.proofs.Heaps.{action-once}
-use Rattle.tv_eval.specs.ScratchForm.{ScratchForm}
+use Rattle.tv_step.specs.EngineForm.{EngineForm}
 use Rattle.tv_step.specs.AtHand.{IsFocusFault}
-use Rattle.tv_losses_enabled.specs.Enabled.{IsEnabledAtHand}
+use Rattle.tv_losses.specs.Enabled.{IsEnabledAtHand}
 use Rattle.tv_work.specs.Analyzed.{IsAtSource}
 use Rattle.tv_losses.specs.Losses.{HasNoOpeningAt, IsLost, IsLostAt, ListsNothing}
-use Rattle.tv_losses.specs.Tasks.{IsReady, form_in, reached_in}
+use Rattle.tv_losses.specs.Tasks.{IsReady, reached_in}
 use Rattle.tv_losses.specs.declared.task.Task.{Task}
 
 -- a structure that gives something isn't lost
@@ -136,14 +136,14 @@ listed-all P listing all node s has = by (cases_lt node (length listing))
     by (inl lt) = All-contains P (at_node listing node) s (all node [] lt) has
     by (inr past) = absurd (Contains-none s (subst (λ ss. Contains ss s) (get_or_past listing node [] past) has))
 
-module _ (x : Task) (scratch : ScratchForm) (ready : IsReady x scratch) (number : ℕ) (edge : Edge)
+module _ (x : Task) (stepper : EngineForm) (ready : IsReady x stepper) (number : ℕ) (edge : Edge)
     (is : slice_get x.program.now.edges number ≡ Some edge) (s : StructureForm)
     (has : Contains (at_node x.listing.now edge.from) s) where
   pub listed-over : IsOver x.program.now.vocab s
   listed-over =
       (listed-all (λ t. IsStructure t × IsOver x.program.now.vocab t) x.listing.now ready.over edge.from s has).1
 
-  pub at-source : IsAtSource (form_in x) number (reached_in x) (record { node = edge.from; structure = s })
+  pub at-source : IsAtSource (program_of x.program.now) number (reached_in x) (record { node = edge.from; structure = s })
   at-source = record {
     taken = edge;
     is_edge = is;
@@ -164,7 +164,7 @@ module _ (p : ProgramForm) (valid : IsValid p) (number : ℕ) (edge : Edge)
   pub action-within : edge.action < length p.actions
   action-within = is-edge.2
 
-pub ready-again : (x : Task) (old new : ScratchForm) → new ≡ old → IsReady x old → IsReady x new
+pub ready-again : (x : Task) (old new : EngineForm) → new ≡ old → IsReady x old → IsReady x new
 ready-again x old new same ready = subst (IsReady x) (sym same) ready
 
 -- ---- results

@@ -8,7 +8,7 @@ use Rattle.tv_model.specs.declared.program.Mode.{Mode}
 use Rattle.tv_model.specs.Program.{ProgramForm, ActionForm}
 use Rattle.tv_structure_form.specs.StructureForm.{StructureForm}
 use Rattle.tv_step_laws.specs.Transfer.{AreResults, HasNoOpening, IsActionOf}
-use Rattle.tv_losses_enabled.specs.Enabled.{IsEnabledAtHand}
+use Rattle.tv_losses.specs.Enabled.{IsEnabledAtHand}
 use Rattle.tv_work.specs.Analyzed.{IsAnalysis}
 use Rattle.tv_losses.specs.declared.told.EdgeLoss.{EdgeLoss}
 use Rattle.tv_losses.specs.declared.told.Losses.{Losses}

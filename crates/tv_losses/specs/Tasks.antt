@@ -1,9 +1,8 @@
 -- What losses are looked for in, as the code holds it.
 use Rattle.std.specs.Prelude.{ℕ, ◌≡◌, List, [], ◌∷◌, length, Option, None, Some, All, slice_get}
-use Rattle.tv_eval.specs.ScratchForm.{ScratchForm, IsMadeFor}
-use Rattle.tv_model.specs.declared.program.Mode.{Mode}
-use Rattle.tv_model.specs.Program.{ProgramForm, program_of}
+use Rattle.tv_model.specs.Program.{program_of}
 use Rattle.tv_model.specs.Valid.{IsValid}
+use Rattle.tv_step.specs.EngineForm.{EngineForm}
 use Rattle.tv_structure_form.specs.StructureForm.{IsOver, IsStructure}
 use Rattle.tv_work.specs.Analyzed.{IsWorkCause}
 use Rattle.tv_work.specs.declared.error.WorkError.{WorkError}
@@ -11,30 +10,23 @@ use Rattle.tv_work.specs.Reach.{Point, IsListed, IsReached}
 use Rattle.tv_losses.specs.declared.task.Task.{Task}
 use Rattle.tv_losses.specs.declared.told.EdgeLoss.{EdgeLoss}
 
-abbrev pub form_in : Task → ProgramForm
-form_in x = program_of x.program.now
-
-abbrev pub mode_in : Task → Mode
-mode_in x = x.engine.now.mode
-
 -- the points that the analysis reaches
 abbrev pub reached_in : Task → Point → Type 0
-reached_in x = IsReached (form_in x) (mode_in x) x.initial.now
+reached_in x = IsReached (program_of x.program.now) x.mode x.initial.now
 
--- the program is valid, and engine and scratch are its own; the structures are over its vocabulary,
--- and those that are listed, at its nodes, are reached
-pub record IsReady (x : Task) (scratch : ScratchForm) : Type 0 where
-  pub valid : IsValid (form_in x)
-  pub engine : x.engine.now.program ≡ x.program.now
-  pub room : IsMadeFor (form_in x) 256 scratch
+-- the program is valid, and the stepper is that of the program and the mode; the structures are over its
+-- vocabulary, and those that are listed, at its nodes, are reached
+pub record IsReady (x : Task) (stepper : EngineForm) : Type 0 where
+  pub valid : IsValid (program_of x.program.now)
+  pub made : stepper ≡ record { program = x.program.now; mode = x.mode }
   pub initial : All (IsOver x.program.now.vocab) x.initial.now
-  pub nodes : length x.listing.now ≡ length (form_in x).nodes
+  pub nodes : length x.listing.now ≡ length (program_of x.program.now).nodes
   pub over : All (All (λ s. IsStructure s × IsOver x.program.now.vocab s)) x.listing.now
   pub reached : (at : Point) → IsListed x.listing.now at → reached_in x at
 
 -- why the steps of listed structures aren't done, however many structures may be listed
 abbrev pub IsLossCause : Task → WorkError → Type 0
-IsLossCause x e = (max : ℕ) → IsWorkCause (form_in x) max (reached_in x) e
+IsLossCause x e = (max : ℕ) → IsWorkCause (program_of x.program.now) max (reached_in x) e
 
 -- what is told of an edge where the structures at these places are lost
 pub record Tells (edge listed : ℕ) (places : List ℕ) (loss : EdgeLoss) : Type 0 where

@@ -6,13 +6,13 @@ ghost use Rattle.tv_model.specs.Program.{action_of, program_of};
 ghost use Rattle.tv_model.specs.Valid.{IsValid};
 ghost use Rattle.tv_step_laws.specs.Transfer.{IsActionOf};
 ghost use Rattle.tv_losses.specs.Losses.{AreExactly, IsLost, IsLostAt};
-ghost use Rattle.tv_losses.specs.Tasks.{IsLossCause, IsReady, form_in, mode_in};
+ghost use Rattle.tv_losses.specs.Tasks.{IsLossCause, IsReady};
 
+use crate::enabled::is_enabled_at_hand;
 use crate::task::Task;
 use crate::told::{Places, push_if};
-use tv_eval::Scratch;
-use tv_losses_enabled::is_enabled_at_hand;
 use tv_model::{Action, Edge, Items, Program};
+use tv_step::Stepper;
 use tv_struct::Structure;
 use tv_work::WorkError;
 
@@ -40,21 +40,22 @@ fn is_lost(
     number: u32,
     edge: Edge,
     s: &Structure,
-    scratch: &mut Scratch,
+    stepper: &mut Stepper,
 ) -> Result<bool, WorkError>
-    requires ready { IsReady x.now scratch.old }
+    requires ready { IsReady x.now stepper.old }
     requires edge { slice_get x.now.program.now.edges number ≡ Some edge }
     requires listed { Contains (at_node x.now.listing.now edge.from) s.now }
-    ensures lost { IfOk result (λ lost. IsTrue lost ↔ IsLost (form_in x.now) (mode_in x.now) number s.now) }
+    ensures lost { IfOk result
+        (λ lost. IsTrue lost ↔ IsLost (program_of x.now.program.now) x.now.mode number s.now) }
     ensures cause { IfErr result (IsLossCause x.now) }
-    ensures scratch { scratch.new ≡ scratch.old }
+    ensures same { stepper.new ≡ stepper.old }
 {
-    let out = x.engine.step(number, s, scratch)?;
+    let out = stepper.step(number, s)?;
     if !out.results.as_slice().is_empty() {
         return Ok(false);
     }
     let action = action_at(x.program, number);
-    Ok(is_enabled_at_hand(x.engine, number, action, s, scratch)?)
+    Ok(is_enabled_at_hand(stepper, number, action, s)?)
 }
 
 /// The places of the structures that are lost along the edge, among those listed at its source.
@@ -62,19 +63,19 @@ pub(crate) fn lost_along(
     x: &Task,
     number: u32,
     edge: Edge,
-    scratch: &mut Scratch,
+    stepper: &mut Stepper,
 ) -> Result<Places, WorkError>
-    requires ready { IsReady x.now scratch.old }
+    requires ready { IsReady x.now stepper.old }
     requires edge { slice_get x.now.program.now.edges number ≡ Some edge }
     ensures places { IfOk result (AreExactly
-        (IsLostAt (form_in x.now) (mode_in x.now) number (at_node x.now.listing.now edge.from))) }
+        (IsLostAt (program_of x.now.program.now) x.now.mode number (at_node x.now.listing.now edge.from))) }
     ensures cause { IfErr result (IsLossCause x.now) }
-    ensures scratch { scratch.new ≡ scratch.old }
+    ensures same { stepper.new ≡ stepper.old }
 {
     let mut places = Items::new(x.alloc);
     for place in 0..x.listing.count(edge.from) {
         let s = x.listing.at(edge.from, place);
-        let on = is_lost(x, number, edge, s, scratch)?;
+        let on = is_lost(x, number, edge, s, stepper)?;
         push_if(&mut places, on, place)?;
     }
     Ok(places)

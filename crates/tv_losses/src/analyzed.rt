@@ -7,29 +7,28 @@ ghost use Rattle.tv_structure_form.specs.StructureForm.{IsOver};
 ghost use Rattle.tv_work.specs.Analyzed.{IsWorkCause};
 ghost use Rattle.tv_work.specs.Reach.{IsReached};
 ghost use Rattle.tv_losses.specs.Losses.{AreLosses, AreLossesIn};
-ghost use Rattle.tv_losses.specs.Tasks.{IsLossCause, IsReady, form_in, mode_in};
+ghost use Rattle.tv_losses.specs.Tasks.{IsLossCause, IsReady};
 
 use crate::apart::{empty_nodes, unopened};
 use crate::edges::lost_edges;
 use crate::task::Task;
 use crate::told::Losses;
 use std::alloc::Global;
-use tv_eval::Scratch;
 use tv_model::{Mode, Program};
-use tv_step::Engine;
+use tv_step::Stepper;
 use tv_struct::Structures;
 use tv_work::{WorkError, analyze};
 
 /// The losses of what is listed.
-fn losses_in(x: &Task, scratch: &mut Scratch) -> Result<Losses, WorkError>
-    requires { IsReady x.now scratch.old }
+fn losses_in(x: &Task, stepper: &mut Stepper) -> Result<Losses, WorkError>
+    requires { IsReady x.now stepper.old }
     ensures losses { IfOk result
-        (AreLossesIn (form_in x.now) (mode_in x.now) x.now.initial.now x.now.listing.now) }
+        (AreLossesIn (program_of x.now.program.now) x.now.mode x.now.initial.now x.now.listing.now) }
     ensures cause { IfErr result (IsLossCause x.now) }
 {
-    let initial = unopened(x, scratch)?;
+    let initial = unopened(x, stepper)?;
     let nodes = empty_nodes(x)?;
-    let edges = lost_edges(x, scratch)?;
+    let edges = lost_edges(x, stepper)?;
     Ok(Losses {
         initial,
         nodes,
@@ -56,14 +55,13 @@ pub fn losses(
         (IsReached (program_of program.now) mode initial.now)) }
 {
     let analysis = analyze(alloc, program, initial, mode, max)?;
-    let engine = Engine::new(alloc, program, mode)?;
-    let mut scratch = Scratch::new(alloc, program, 256)?;
+    let mut stepper = Stepper::new(alloc, program, mode)?;
     let task = Task {
         alloc,
         program,
-        engine: &engine,
+        mode,
         initial: initial.as_slice(),
         listing: &analysis.listing,
     };
-    losses_in(&task, &mut scratch)
+    losses_in(&task, &mut stepper)
 }

@@ -5,9 +5,12 @@
 mod along;
 mod analyzed;
 mod apart;
+mod case;
 mod edges;
+mod enabled;
 mod task;
 mod told;
 
 pub use analyzed::losses;
+pub use enabled::is_enabled_at_hand;
 pub use told::{EdgeLoss, EdgeLosses, Losses, Places};

@@ -8,8 +8,9 @@ use Rattle.std.proofs.lemmas.List.Elements.{All-head, All-tail}
 use Rattle.std.proofs.lemmas.Option.{get_or_from_slice_get, none-some, same_Some}
 use Rattle.std.proofs.lemmas.Slice.Zip.{all_zipped_more}
 use Rattle.tv_lemmas.proofs.Zips.{zip_weaker}
+use Rattle.tv_model.specs.Program.{program_of}
 use Rattle.tv_structure_form.specs.StructureForm.{StructureForm}
-use Rattle.tv_losses_unmet.specs.Tried.{AreFoundBefore, IsFoundAt, IsFoundBefore, form_in}
+use Rattle.tv_losses_unmet.specs.Tried.{AreFoundBefore, IsFoundAt, IsFoundBefore}
 use Rattle.tv_losses_unmet.specs.Unmet.{AreFound, IsFoundOf}
 use Rattle.tv_losses_unmet.specs.declared.asked.Asked.{Asked}
 use Rattle.tv_losses_unmet.specs.declared.claim.Claim.{Claim}
@@ -58,36 +59,36 @@ module _ (x : Asked) where
       → AreFoundBefore x (Predicate (record { 0 = 0 })) all
   first-none all is =
       subst (AreFoundBefore x (Predicate (record { 0 = 0 }))) (sym is)
-      (zip-same (IsFoundAt x (Predicate (record { 0 = 0 }))) None (λ number s at. none-yet (form_in x) s)
+      (zip-same (IsFoundAt x (Predicate (record { 0 = 0 }))) None (λ number s at. none-yet (program_of x.program.now) s)
       x.numbers.now)
 
   pub found-before : (claim : Claim) (found : List (Option Claim)) (place number : ℕ) (s : StructureForm)
       (c : Option Claim) → AreFoundBefore x claim found → slice_get x.numbers.now place ≡ Some number
       → slice_get x.structures.now number ≡ Some s → slice_get found place ≡ Some c
-      → IsFoundBefore (form_in x) claim s c
+      → IsFoundBefore (program_of x.program.now) claim s c
   found-before claim found place number s c all at of here =
       zip-at (IsFoundAt x claim) x.numbers.now found place number c all at here s of
 
   -- what is found of one structure, where that is at hand
   pub at-it : (claim : Claim) (number : ℕ) (s : StructureForm) (c : Option Claim)
-      → slice_get x.structures.now number ≡ Some s → IsFoundBefore (form_in x) claim s c
+      → slice_get x.structures.now number ≡ Some s → IsFoundBefore (program_of x.program.now) claim s c
       → IsFoundAt x claim number c
   at-it claim number s c at before t is =
-      subst (λ z. IsFoundBefore (form_in x) claim z c) (same_Some s t (sym at ∙ is)) before
+      subst (λ z. IsFoundBefore (program_of x.program.now) claim z c) (same_Some s t (sym at ∙ is)) before
 
   pub all-before : (claim other : Claim) (seen found : List (Option Claim)) → seen ≡ found
       → All (λ c. IsTrue (is_some c)) seen → AreFoundBefore x claim found → AreFoundBefore x other found
   all-before claim other seen found same some before =
       zip-where (λ c. IsTrue (is_some c)) (IsFoundAt x claim) (IsFoundAt x other)
-      (λ number c is at s here. some-before (form_in x) s claim other c is (at s here))
+      (λ number c is at s here. some-before (program_of x.program.now) s claim other c is (at s here))
       x.numbers.now found (subst (All (λ c. IsTrue (is_some c))) same some) before
 
   pub all-at_last : (claim : Claim) (seen found : List (Option Claim)) → seen ≡ found
-      → All (λ c. IsTrue (is_some c)) seen → AreFoundBefore x claim found → AreFound (form_in x) x.structures.now x.numbers.now found
+      → All (λ c. IsTrue (is_some c)) seen → AreFoundBefore x claim found → AreFound (program_of x.program.now) x.structures.now x.numbers.now found
   all-at_last claim seen found same some before =
       zip-where (λ c. IsTrue (is_some c)) (IsFoundAt x claim)
-      (IsFoundOf (form_in x) x.structures.now)
-      (λ number c is at s here. some-at_last (form_in x) s claim c is (at s here))
+      (IsFoundOf (program_of x.program.now) x.structures.now)
+      (λ number c is at s here. some-at_last (program_of x.program.now) s claim c is (at s here))
       x.numbers.now found (subst (All (λ c. IsTrue (is_some c))) same some) before
 
   pub preds-all : (number : ℕ) (found : List (Option Claim)) → length x.program.now.vocab.preds ≤ number
@@ -97,8 +98,8 @@ module _ (x : Asked) where
       (λ k c at s here. preds-tried x.program.now s number all c (at s here)) x.numbers.now found before
 
   pub rules-all : (number : ℕ) (found : List (Option Claim)) → length x.program.now.rules ≤ number
-      → AreFoundBefore x (Rule number) found → AreFound (form_in x) x.structures.now x.numbers.now found
+      → AreFoundBefore x (Rule number) found → AreFound (program_of x.program.now) x.structures.now x.numbers.now found
   rules-all number found all before =
       zip_weaker (IsFoundAt x (Rule number))
-      (IsFoundOf (form_in x) x.structures.now)
+      (IsFoundOf (program_of x.program.now) x.structures.now)
       (λ k c at s here. rules-tried x.program.now s number all c (at s here)) x.numbers.now found before

@@ -10,12 +10,9 @@ use Rattle.tv_losses_unmet.specs.declared.asked.Asked.{Asked}
 use Rattle.tv_losses_unmet.specs.declared.claim.Claim.{Claim}
 use Rattle.tv_losses_unmet.specs.declared.claim.Claim.TheVariants.{Predicate, Rule}
 
-abbrev pub form_in : Asked → ProgramForm
-form_in x = program_of x.program.now
-
 -- the program is valid, the structures are over its vocabulary, and the numbers are of some of them
 pub record IsAsked (x : Asked) : Type 0 where
-  pub valid : IsValid (form_in x)
+  pub valid : IsValid (program_of x.program.now)
   pub over : All (IsOver x.program.now.vocab) x.structures.now
   pub within : All (λ number. number < length x.structures.now) x.numbers.now
 
@@ -32,7 +29,8 @@ IsFoundBefore p claim s (Some first) = IsFirstUnmet p s first
 -- so of the structure of this number
 abbrev pub IsFoundAt : Asked → Claim → (number : ℕ) → Option Claim → Type 0
 IsFoundAt x claim number c =
-    (s : StructureForm) → slice_get x.structures.now number ≡ Some s → IsFoundBefore (form_in x) claim s c
+    (s : StructureForm) → slice_get x.structures.now number ≡ Some s
+    → IsFoundBefore (program_of x.program.now) claim s c
 
 -- and of those of all numbers
 abbrev pub AreFoundBefore : Asked → Claim → List (Option Claim) → Type 0

@@ -7,7 +7,7 @@ ghost use Rattle.tv_rules.specs.EntryForms.{rules_of};
 ghost use Rattle.tv_stable_laws.specs.Stable.{HasNoStable};
 ghost use Rattle.tv_structure_form.specs.StructureForm.{IsOver, IsStructure, StructureForm, structure_of};
 ghost use Rattle.tv_losses_unmet.specs.Alone.{alone};
-ghost use Rattle.tv_losses_unmet.specs.Tried.{AreFoundBefore, IsAsked, IsFoundBefore, form_in, next};
+ghost use Rattle.tv_losses_unmet.specs.Tried.{AreFoundBefore, IsAsked, IsFoundBefore, next};
 ghost use Rattle.tv_losses_unmet.specs.Unmet.{AreFound, closed_alone};
 ghost use Rattle.tv_losses_unmet.specs.declared.claim.Claim.TheVariants.{Predicate, Rule};
 
@@ -47,9 +47,9 @@ fn tried(
     scratch: &mut Scratch,
 ) -> Result<Option<Claim>, AllocError>
     requires can { CanCoerce (rules_of closed.now) s.now scratch.old }
-    requires rules { rules_of closed.now ≡ closed_alone (form_in x.now) claim }
-    requires before { IsFoundBefore (form_in x.now) claim s.now found }
-    ensures found { IfOk result (IsFoundBefore (form_in x.now) (next claim) s.now) }
+    requires rules { rules_of closed.now ≡ closed_alone (program_of x.now.program.now) claim }
+    requires before { IsFoundBefore (program_of x.now.program.now) claim s.now found }
+    ensures found { IfOk result (IsFoundBefore (program_of x.now.program.now) (next claim) s.now) }
     ensures scratch { scratch.new ≡ scratch.old }
 {
     if found.is_some() {
@@ -104,7 +104,7 @@ fn try_each(
     requires asked { IsAsked x.now }
     requires can { (s : StructureForm) → IsOver x.now.program.now.vocab s → IsStructure s
         → CanCoerce (rules_of closed.now) s scratch.old }
-    requires rules { rules_of closed.now ≡ closed_alone (form_in x.now) claim }
+    requires rules { rules_of closed.now ≡ closed_alone (program_of x.now.program.now) claim }
     requires before { AreFoundBefore x.now claim found.now }
     ensures { IfOk result (λ all. AreFoundBefore x.now (next claim) all.items) }
 {
@@ -127,7 +127,7 @@ fn try_claim(
     found: &[Option<Claim>],
 ) -> Result<Vec<Option<Claim>>, AllocError>
     requires asked { IsAsked x.now }
-    requires made { program_of made.now ≡ alone claim (form_in x.now) }
+    requires made { program_of made.now ≡ alone claim (program_of x.now.program.now) }
     requires before { AreFoundBefore x.now claim found.now }
     ensures { IfOk result (λ all. AreFoundBefore x.now (next claim) all.items) }
 {
@@ -179,7 +179,7 @@ pub(crate) fn try_rules(
     requires asked { IsAsked x.now }
     requires before { AreFoundBefore x.now (Rule 0) found.items }
     ensures { IfOk result
-        (λ all. AreFound (form_in x.now) x.now.structures.now x.now.numbers.now all.items) }
+        (λ all. AreFound (program_of x.now.program.now) x.now.structures.now x.now.numbers.now all.items) }
 {
     let mut made = alone(x.alloc, x.program, Claim::Rule(0))?;
     for number in 0..x.program.rules.len() {

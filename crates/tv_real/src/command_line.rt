@@ -4,7 +4,8 @@ ghost use Rattle.std.specs.Prelude.{◌≡◌, ◌⊎◌, drop, IfOk};
 ghost use Rattle.std.specs.Vec.Iter.{into_iter_items};
 ghost use Rattle.tv_outside.specs.Count.{Rose};
 ghost use Rattle.tv_outside.specs.Told.{TookFront, appended};
-ghost use Rattle.tv_status.specs.Status.{text_of};
+ghost use Rattle.tv_status.specs.Delivery.{StopsAtFailure};
+ghost use Rattle.tv_real.specs.Ended.{memory_text};
 ghost use Rattle.tv_real.specs.Ended.{AreArguments};
 
 use crate::real_sink::RealSink;
@@ -13,7 +14,7 @@ use std::env::Args;
 use std::io;
 use std::io::{ErrorKind, Stderr, Stdout};
 use tv_outside::Sink;
-use tv_status::{Status, write_status};
+use tv_status::{Status, Teller, write_told};
 
 /// The streams that a call gives its texts to.
 #[derive(Drop)]
@@ -70,13 +71,14 @@ pub fn behind_the_name(all: &[String]) -> &[String]
 }
 
 /// Tells that there is no memory, not even for the words.
-pub fn without_memory<E: Sink>(err: &mut E) -> Status
-    ensures { ((result ≡ Status.Memory)
-        × (E.taken err.new ≡ appended (E.taken err.old) (text_of Status.Memory)))
+pub fn without_memory<E: Sink>(err: &mut E, teller: Teller) -> Status
+    ensures told { ((result ≡ Status.Memory)
+        × (E.taken err.new ≡ appended (E.taken err.old) (memory_text teller)))
         ⊎ ((result ≡ Status.WriteFault) × Rose (E.faults err.old) (E.faults err.new)
-        × TookFront (E.taken err.old) (E.taken err.new) (text_of Status.Memory)) }
+        × TookFront (E.taken err.old) (E.taken err.new) (memory_text teller)) }
+    ensures stops { StopsAtFailure (E.failures err.old) (E.failures err.new) (E.since err.new) }
 {
-    match write_status(err, Status::Memory) {
+    match write_told(err, teller, b"", Status::Memory) {
         Ok(()) => Status::Memory,
         Err(_) => Status::WriteFault,
     }

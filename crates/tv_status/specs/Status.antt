@@ -28,6 +28,8 @@ use Rattle.tv_status.specs.declared.status.Status.{Status}
 use Rattle.tv_status.specs.declared.status.Status.TheVariants.{Done, Rejected, Stuck, Usage, FileFault}
 use Rattle.tv_status.specs.declared.status.Status.TheVariants.{Structures, TooManySplits, TooManyIndividuals}
 use Rattle.tv_status.specs.declared.status.Status.TheVariants.{ReadFault, WriteFault, Memory}
+use Rattle.tv_status.specs.declared.status.Teller.{Teller}
+use Rattle.tv_status.specs.declared.status.Teller.TheVariants as teller
 
 -- the exit code of the process
 abbrev pub code_of : Status → ℕ
@@ -145,16 +147,33 @@ place_of (kind.Source error) = source_place error
 abbrev pub line : List ℕ → List ℕ
 line text = text ++ 10 ∷ []
 
+-- the name of the program that tells
+abbrev pub teller_name : Teller → List ℕ
+teller_name teller.Analyzer = codes "tvla"
+teller_name teller.Explainer = codes "tvla-explain"
+
+-- what the program says behind the fault of a file
+abbrev pub hint_of : Teller → List ℕ
+hint_of teller.Analyzer = []
+hint_of teller.Explainer = codes " (./tvla-lint with the same words tells where)"
+
+-- a line of the program's
+unfoldable pub teller_line : Teller → (what : List ℕ) → List ℕ
+teller_line teller what = line (teller_name teller ++ codes ": " ++ what)
+
 -- a fault of a file: the file, the fault, and its place where it has one
-unfoldable pub file_fault_text : Role → FileKind → Option Place → List ℕ
-file_fault_text role kind None = line (codes "tvla: " ++ role_name role ++ codes ": " ++ kind_name kind)
-file_fault_text role kind (Some place) =
-    line (codes "tvla: " ++ role_name role ++ codes ": " ++ kind_name kind
-    ++ codes " at " ++ decimal place.line ++ codes ":" ++ decimal place.column)
+unfoldable pub file_fault_text : Teller → Role → FileKind → Option Place → List ℕ
+file_fault_text teller role kind None =
+    line
+    (teller_name teller ++ codes ": " ++ role_name role ++ codes ": " ++ kind_name kind ++ hint_of teller)
+file_fault_text teller role kind (Some place) =
+    line (teller_name teller ++ codes ": " ++ role_name role ++ codes ": " ++ kind_name kind
+    ++ codes " at " ++ decimal place.line ++ codes ":" ++ decimal place.column ++ hint_of teller)
 
 -- that there are more structures than this
-unfoldable pub too_many_text : ℕ → List ℕ
-too_many_text max = codes "tvla: more than " ++ decimal max ++ line (codes " structures")
+unfoldable pub too_many_text : Teller → ℕ → List ℕ
+too_many_text teller max =
+    teller_name teller ++ codes ": more than " ++ decimal max ++ line (codes " structures")
 
 -- the lines of all commands
 unfoldable pub usage_text : List ℕ
@@ -166,16 +185,21 @@ usage_text =
     ++ line (codes "       tvla source SOURCE INITIAL [--max-structures N]")
     ++ line (codes "       tvla join PROGRAM INITIAL [--max-structures N] [--recompute]")
 
--- the text that tells the status to whom called; one whose text the output took needs none
+-- the text by which a program, whose commands have this text, tells the status to whom called; a status whose
+-- text the output took needs none
+abbrev pub told_by : Teller → (usage : List ℕ) → Status → List ℕ
+told_by teller usage Done = []
+told_by teller usage (Rejected rejection) = []
+told_by teller usage (Stuck step why) = []
+told_by teller usage Usage = usage
+told_by teller usage (FileFault role kind) = file_fault_text teller role kind (place_of kind)
+told_by teller usage (Structures max) = too_many_text teller max
+told_by teller usage TooManySplits = teller_line teller (codes "too many splits")
+told_by teller usage TooManyIndividuals = teller_line teller (codes "too many individuals")
+told_by teller usage ReadFault = teller_line teller (codes "read fault")
+told_by teller usage WriteFault = teller_line teller (codes "write fault")
+told_by teller usage Memory = teller_line teller (codes "out of memory")
+
+-- the text by which `tvla` tells it
 abbrev pub text_of : Status → List ℕ
-text_of Done = []
-text_of (Rejected rejection) = []
-text_of (Stuck step why) = []
-text_of Usage = usage_text
-text_of (FileFault role kind) = file_fault_text role kind (place_of kind)
-text_of (Structures max) = too_many_text max
-text_of TooManySplits = line (codes "tvla: too many splits")
-text_of TooManyIndividuals = line (codes "tvla: too many individuals")
-text_of ReadFault = line (codes "tvla: read fault")
-text_of WriteFault = line (codes "tvla: write fault")
-text_of Memory = line (codes "tvla: out of memory")
+text_of status = told_by teller.Analyzer usage_text status

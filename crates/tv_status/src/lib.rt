@@ -5,5 +5,5 @@ mod names;
 mod status;
 mod tell;
 
-pub use status::{FileKind, Role, Status};
-pub use tell::write_status;
+pub use status::{FileKind, Role, Status, Teller};
+pub use tell::{write_line, write_status, write_told};

@@ -3,9 +3,9 @@
 ghost use Rattle.std.specs.Prelude.{◌≡◌};
 ghost use Rattle.tv_status.specs.Status.{role_name, gathering_name, lexing_name, parsing_name};
 ghost use Rattle.tv_status.specs.Status.{expanding_name, resolving_name, program_name, structures_name};
-ghost use Rattle.tv_status.specs.Status.{kind_name, source_name, place_of};
+ghost use Rattle.tv_status.specs.Status.{hint_of, kind_name, source_name, place_of, teller_name};
 
-use crate::status::{FileKind, Role};
+use crate::status::{FileKind, Role, Teller};
 use tv_expand::ExpandError;
 use tv_front::ProgramFault;
 use tv_lex::{GatherError, LexError, Place};
@@ -117,6 +117,28 @@ fn source_name(error: SourceError) -> &'static [u8]
         SourceError::NameUnknown => b"NameUnknown",
         SourceError::TooMany => b"TooMany",
         SourceError::Memory => b"Memory",
+    }
+}
+
+impl Teller {
+    /// The name of the program.
+    pub(crate) fn name(self) -> &'static [u8]
+        ensures { result.now ≡ teller_name self }
+    {
+        match self {
+            Teller::Analyzer => b"tvla",
+            Teller::Explainer => b"tvla-explain",
+        }
+    }
+
+    /// What it says behind the fault of a file.
+    pub(crate) fn hint(self) -> &'static [u8]
+        ensures { result.now ≡ hint_of self }
+    {
+        match self {
+            Teller::Analyzer => b"",
+            Teller::Explainer => b" (./tvla-lint with the same words tells where)",
+        }
     }
 }
 

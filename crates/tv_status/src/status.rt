@@ -52,6 +52,15 @@ pub enum FileKind {
     Source(SourceError),
 }
 
+/// The program that tells how its call ended.
+#[derive(Clone, Copy, Debug, PartialEq, Eq)]
+pub enum Teller {
+    /// `tvla`.
+    Analyzer,
+    /// `tvla-explain`.
+    Explainer,
+}
+
 /// How a call of the whole program ends.
 #[derive(Clone, Copy, Debug, PartialEq, Eq)]
 pub enum Status {

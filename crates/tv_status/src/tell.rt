@@ -3,9 +3,10 @@
 ghost use Rattle.std.specs.Prelude.{◌≡◌, ◌≤◌, OnOk, OnErr, Some, None};
 ghost use Rattle.tv_outside.specs.Count.{Rose, FailedLast};
 ghost use Rattle.tv_outside.specs.Told.{appended, TookFront};
-ghost use Rattle.tv_status.specs.Status.{text_of, file_fault_text, too_many_text, usage_text};
+ghost use Rattle.tv_status.specs.Status.{file_fault_text, place_of, teller_line, text_of, told_by};
+ghost use Rattle.tv_status.specs.Status.{too_many_text, usage_text};
 
-use crate::status::{FileKind, Role, Status};
+use crate::status::{FileKind, Role, Status, Teller};
 use itoa::Buffer;
 use tv_lex::Place;
 use tv_outside::{Failed, Sink, write_all, write_parts};
@@ -19,48 +20,70 @@ const USAGE: &[u8] =
        tvla join PROGRAM INITIAL [--max-structures N] [--recompute]
 ";
 
-/// Gives the usage text to the sink; takes no memory.
-fn write_usage<E: Sink>(err: &mut E) -> Result<(), Failed>
-    ensures all { OnOk result (E.taken err.new ≡ appended (E.taken err.old) usage_text) }
+/// Gives a line of the program's to the sink: its name, and what is said. Takes no memory.
+///
+/// # Errors
+/// `Failed` comes only where a call of `err` failed, and then a front of the line was taken.
+#[tactic(auto, unfolding(crate::specs::Status::teller_line))]
+pub fn write_line<E: Sink>(err: &mut E, teller: Teller, what: &'static [u8]) -> Result<(), Failed>
+    ensures all { OnOk result (E.taken err.new ≡ appended (E.taken err.old) (teller_line teller what.now)) }
     ensures failed { OnErr result (Rose (E.faults err.old) (E.faults err.new)) }
-    ensures front { OnErr result (TookFront (E.taken err.old) (E.taken err.new) usage_text) }
+    ensures front { OnErr result
+        (TookFront (E.taken err.old) (E.taken err.new) (teller_line teller what.now)) }
     ensures no_failure { OnOk result (E.failures err.new ≡ E.failures err.old) }
     ensures failed_last { OnErr result
         (FailedLast (E.failures err.old) (E.failures err.new) (E.since err.new)) }
     ensures count { E.faults err.old ≤ E.faults err.new }
 {
-    write_all(err, USAGE)
+    write_parts(err, &[teller.name(), b": ", what, b"\n"])
 }
 
 /// Gives the text of a file's fault without its place to the sink; takes no memory.
 #[tactic(auto, unfolding(crate::specs::Status::file_fault_text))]
-fn write_kind<E: Sink>(err: &mut E, role: Role, kind: FileKind) -> Result<(), Failed>
-    ensures all { OnOk result (E.taken err.new
-        ≡ appended (E.taken err.old) (file_fault_text role kind None)) }
+fn write_kind<E: Sink>(
+    err: &mut E,
+    teller: Teller,
+    role: Role,
+    kind: FileKind,
+) -> Result<(), Failed>
+    ensures all { OnOk result
+        (E.taken err.new ≡ appended (E.taken err.old) (file_fault_text teller role kind None)) }
     ensures failed { OnErr result (Rose (E.faults err.old) (E.faults err.new)) }
-    ensures front { OnErr result (TookFront (E.taken err.old) (E.taken err.new)
-        (file_fault_text role kind None)) }
+    ensures front { OnErr result
+        (TookFront (E.taken err.old) (E.taken err.new) (file_fault_text teller role kind None)) }
     ensures no_failure { OnOk result (E.failures err.new ≡ E.failures err.old) }
     ensures failed_last { OnErr result
         (FailedLast (E.failures err.old) (E.failures err.new) (E.since err.new)) }
     ensures count { E.faults err.old ≤ E.faults err.new }
 {
-    write_parts(err, &[b"tvla: ", role.name(), b": ", kind.name(), b"\n"])
+    write_parts(
+        err,
+        &[
+            teller.name(),
+            b": ",
+            role.name(),
+            b": ",
+            kind.name(),
+            teller.hint(),
+            b"\n",
+        ],
+    )
 }
 
 /// Gives the text of a file's fault at a place to the sink; takes no memory.
 #[tactic(auto, unfolding(crate::specs::Status::file_fault_text))]
 fn write_kind_at<E: Sink>(
     err: &mut E,
+    teller: Teller,
     role: Role,
     kind: FileKind,
     place: Place,
 ) -> Result<(), Failed>
-    ensures all { OnOk result (E.taken err.new
-        ≡ appended (E.taken err.old) (file_fault_text role kind (Some place))) }
+    ensures all { OnOk result
+        (E.taken err.new ≡ appended (E.taken err.old) (file_fault_text teller role kind (Some place))) }
     ensures failed { OnErr result (Rose (E.faults err.old) (E.faults err.new)) }
-    ensures front { OnErr result (TookFront (E.taken err.old) (E.taken err.new)
-        (file_fault_text role kind (Some place))) }
+    ensures front { OnErr result
+        (TookFront (E.taken err.old) (E.taken err.new) (file_fault_text teller role kind (Some place))) }
     ensures no_failure { OnOk result (E.failures err.new ≡ E.failures err.old) }
     ensures failed_last { OnErr result
         (FailedLast (E.failures err.old) (E.failures err.new) (E.since err.new)) }
@@ -71,7 +94,8 @@ fn write_kind_at<E: Sink>(
     write_parts(
         err,
         &[
-            b"tvla: ",
+            teller.name(),
+            b": ",
             role.name(),
             b": ",
             kind.name(),
@@ -79,6 +103,7 @@ fn write_kind_at<E: Sink>(
             line.format(place.line).as_bytes(),
             b":",
             column.format(place.column).as_bytes(),
+            teller.hint(),
             b"\n",
         ],
     )
@@ -86,10 +111,10 @@ fn write_kind_at<E: Sink>(
 
 /// Gives the text that there are more than `max` structures to the sink; takes no memory.
 #[tactic(auto, unfolding(crate::specs::Status::too_many_text))]
-fn write_too_many<E: Sink>(err: &mut E, max: u64) -> Result<(), Failed>
-    ensures all { OnOk result (E.taken err.new ≡ appended (E.taken err.old) (too_many_text max)) }
+fn write_too_many<E: Sink>(err: &mut E, teller: Teller, max: u64) -> Result<(), Failed>
+    ensures all { OnOk result (E.taken err.new ≡ appended (E.taken err.old) (too_many_text teller max)) }
     ensures failed { OnErr result (Rose (E.faults err.old) (E.faults err.new)) }
-    ensures front { OnErr result (TookFront (E.taken err.old) (E.taken err.new) (too_many_text max)) }
+    ensures front { OnErr result (TookFront (E.taken err.old) (E.taken err.new) (too_many_text teller max)) }
     ensures no_failure { OnOk result (E.failures err.new ≡ E.failures err.old) }
     ensures failed_last { OnErr result
         (FailedLast (E.failures err.old) (E.failures err.new) (E.since err.new)) }
@@ -99,36 +124,56 @@ fn write_too_many<E: Sink>(err: &mut E, max: u64) -> Result<(), Failed>
     write_parts(
         err,
         &[
-            b"tvla: more than ",
+            teller.name(),
+            b": more than ",
             digits.format(max).as_bytes(),
             b" structures\n",
         ],
     )
 }
 
-/// Gives the text of a file's fault to the sink; takes no memory.
-fn write_file_fault<E: Sink>(err: &mut E, role: Role, kind: FileKind) -> Result<(), Failed>
-    ensures all { OnOk result (E.taken err.new
-        ≡ appended (E.taken err.old) (text_of (Status.FileFault role kind))) }
+/// Gives the text by which a program, whose commands have this text, tells the status to the sink; takes no
+/// memory. `Done`, `Rejected` and `Stuck` have none, since the output took theirs.
+///
+/// # Errors
+/// `Failed` comes only where a call of `err` failed, and then a front of the text was taken.
+pub fn write_told<E: Sink>(
+    err: &mut E,
+    teller: Teller,
+    usage: &[u8],
+    status: Status,
+) -> Result<(), Failed>
+    ensures all { OnOk result
+        (E.taken err.new ≡ appended (E.taken err.old) (told_by teller usage.now status)) }
     ensures failed { OnErr result (Rose (E.faults err.old) (E.faults err.new)) }
-    ensures front { OnErr result (TookFront (E.taken err.old) (E.taken err.new)
-        (text_of (Status.FileFault role kind))) }
+    ensures front { OnErr result
+        (TookFront (E.taken err.old) (E.taken err.new) (told_by teller usage.now status)) }
     ensures no_failure { OnOk result (E.failures err.new ≡ E.failures err.old) }
     ensures failed_last { OnErr result
         (FailedLast (E.failures err.old) (E.failures err.new) (E.since err.new)) }
     ensures count { E.faults err.old ≤ E.faults err.new }
 {
-    match kind.place() {
-        Some(place) => write_kind_at(err, role, kind, place),
-        None => write_kind(err, role, kind),
+    match status {
+        Status::Done | Status::Rejected(_) | Status::Stuck { .. } => write_all(err, b""),
+        Status::Usage => write_all(err, usage),
+        Status::FileFault(role, kind) => match kind.place() {
+            Some(place) => write_kind_at(err, teller, role, kind, place),
+            None => write_kind(err, teller, role, kind),
+        },
+        Status::Structures(max) => write_too_many(err, teller, max),
+        Status::TooManySplits => write_line(err, teller, b"too many splits"),
+        Status::TooManyIndividuals => write_line(err, teller, b"too many individuals"),
+        Status::ReadFault => write_line(err, teller, b"read fault"),
+        Status::WriteFault => write_line(err, teller, b"write fault"),
+        Status::Memory => write_line(err, teller, b"out of memory"),
     }
 }
 
-/// Gives the text of the status to the sink; takes no memory. `Done`, `Rejected` and `Stuck` have none, since
-/// the output took theirs.
+/// Gives the text by which `tvla` tells the status to the sink; takes no memory.
 ///
 /// # Errors
 /// `Failed` comes only where a call of `err` failed, and then a front of the text was taken.
+#[tactic(auto, unfolding(crate::specs::Status::usage_text))]
 pub fn write_status<E: Sink>(err: &mut E, status: Status) -> Result<(), Failed>
     ensures all { OnOk result (E.taken err.new ≡ appended (E.taken err.old) (text_of status)) }
     ensures failed { OnErr result (Rose (E.faults err.old) (E.faults err.new)) }
@@ -138,15 +183,5 @@ pub fn write_status<E: Sink>(err: &mut E, status: Status) -> Result<(), Failed>
         (FailedLast (E.failures err.old) (E.failures err.new) (E.since err.new)) }
     ensures count { E.faults err.old ≤ E.faults err.new }
 {
-    match status {
-        Status::Done | Status::Rejected(_) | Status::Stuck { .. } => write_all(err, b""),
-        Status::Usage => write_usage(err),
-        Status::FileFault(role, kind) => write_file_fault(err, role, kind),
-        Status::Structures(max) => write_too_many(err, max),
-        Status::TooManySplits => write_all(err, b"tvla: too many splits\n"),
-        Status::TooManyIndividuals => write_all(err, b"tvla: too many individuals\n"),
-        Status::ReadFault => write_all(err, b"tvla: read fault\n"),
-        Status::WriteFault => write_all(err, b"tvla: write fault\n"),
-        Status::Memory => write_all(err, b"tvla: out of memory\n"),
-    }
+    write_told(err, Teller::Analyzer, USAGE, status)
 }

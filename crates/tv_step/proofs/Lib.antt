@@ -16,6 +16,7 @@ mod Picking
 mod Redefining
 mod Said
 mod Sorting
+mod Steppers
 mod Stepping
 mod Turns
 mod Variables

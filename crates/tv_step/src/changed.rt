@@ -102,7 +102,7 @@ fn waiting_in_updated(
     Ok(found)
 }
 
-/// The same, and the rules about one of the further predicates whose values differ.
+/// The rules about an updated predicate, or one of the further predicates, whose values differ.
 fn waiting_in_some(
     x: &Setting,
     from: &Structure,
@@ -171,7 +171,8 @@ fn remove_met(redefined: Redefined<'_>, set: &mut RuleSet)
     }
 }
 
-/// The same without those that came of definitions which were evaluated anew: these are met.
+/// The rules that may be unmet in what came of a stable structure, without those that came of definitions
+/// which were evaluated anew: these are met.
 pub fn waiting_in(
     x: &Setting,
     waiting: &RuleSet,

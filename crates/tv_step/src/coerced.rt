@@ -29,8 +29,8 @@ pub enum Ending {
     Blurred,
 }
 
-/// What is done with the coerced structure.
-fn ended(x: &Setting, ending: Ending, t: Structure) -> Result<Structure, AllocError>
+/// Blurs a coerced structure where the step ends with it; where the step goes on, it stays as it is.
+fn finish(x: &Setting, ending: Ending, t: Structure) -> Result<Structure, AllocError>
     requires { IsOver x.now.program.now.vocab t }
     ensures { IfOk result (IsEndOf ending x.now.program.now t) }
 {
@@ -40,9 +40,9 @@ fn ended(x: &Setting, ending: Ending, t: Structure) -> Result<Structure, AllocEr
     }
 }
 
-/// Puts what comes of the greatest stable structure below `s` behind the others, if there is one. Only the
+/// Coerces and finishes a structure in its own memory, and puts it behind the others, or drops it. Only the
 /// rules that wait may be unmet.
-fn push_in_place(
+fn coerce_one(
     x: &Setting,
     ending: Ending,
     waiting: RuleSet,
@@ -60,13 +60,13 @@ fn push_in_place(
     let _ = s.size();
     match coerce_in_place(x.alloc, x.closed, s, waiting, scratch)? {
         None => Ok(()),
-        Some(t) => out.push(ended(x, ending, t)?),
+        Some(t) => out.push(finish(x, ending, t)?),
     }
 }
 
-/// Puts what comes of `s` behind the others, where only the rules found may be unmet: none is tried where
-/// none is told.
-fn push_found(
+/// Coerces a structure where rules may be unmet in it, finishes it, and puts it behind the others. None is
+/// tried where none is told.
+fn coerce_if_unmet(
     x: &Setting,
     ending: Ending,
     found: Option<RuleSet>,
@@ -81,14 +81,14 @@ fn push_found(
     ensures scratch { scratch.new ≡ scratch.old }
 {
     match found {
-        None => out.push(ended(x, ending, s)?),
-        Some(few) => push_in_place(x, ending, few, s, scratch, out),
+        None => out.push(finish(x, ending, s)?),
+        Some(few) => coerce_one(x, ending, few, s, scratch, out),
     }
 }
 
-/// The only structure of the list, and the list without it, which keeps its memory.
+/// The only structure of a list, and the list without it, which keeps its memory.
 #[inline(always)]
-fn taken(structures: Structures) -> (Structure, Structures)
+fn take_only(structures: Structures) -> (Structure, Structures)
     requires { length structures ≡ 1 }
     ensures one { structures ≡ result.0 ∷ [] }
     ensures none { result.1 ≡ [] }
@@ -100,8 +100,8 @@ fn taken(structures: Structures) -> (Structure, Structures)
     }
 }
 
-/// Whether nothing is left to do with the coerced structure.
-fn is_ended(x: &Setting, ending: Ending, t: &Structure) -> bool
+/// Whether a coerced structure is what finishing would make of it.
+fn is_finished(x: &Setting, ending: Ending, t: &Structure) -> bool
     requires { IsOver x.now.program.now.vocab t.now }
     ensures { IsTrue result → IsEndOf ending x.now.program.now t.now t.now }
 {
@@ -112,9 +112,9 @@ fn is_ended(x: &Setting, ending: Ending, t: &Structure) -> bool
     }
 }
 
-/// The same for the only structure of a list, where nothing was put yet: the list's memory serves again.
+/// Coerces and finishes the only structure of a list, and puts it back into the list's memory.
 #[inline(never)]
-fn push_taken(
+fn replace_only(
     x: &Setting,
     ending: Ending,
     found: Option<RuleSet>,
@@ -130,15 +130,16 @@ fn push_taken(
     ensures out { OnOk result (Adds (AreFrom (Becomes ending (form_in x.now))) structures out.old out.new) }
     ensures scratch { scratch.new ≡ scratch.old }
 {
-    let (s, mut own) = taken(structures);
-    push_found(x, ending, found, s, scratch, &mut own)?;
+    let (s, mut own) = take_only(structures);
+    coerce_if_unmet(x, ending, found, s, scratch, &mut own)?;
     *out = own;
     Ok(())
 }
 
-/// The same; the list is handed on as it is where nothing is left to do.
+/// Coerces and finishes the only structure of a list, and hands the list on. Nothing is done where nothing
+/// is left to do.
 #[inline(always)]
-fn push_only(
+fn coerce_only(
     x: &Setting,
     ending: Ending,
     found: Option<RuleSet>,
@@ -154,16 +155,16 @@ fn push_only(
     ensures out { OnOk result (Adds (AreFrom (Becomes ending (form_in x.now))) structures out.old out.new) }
     ensures scratch { scratch.new ≡ scratch.old }
 {
-    if found.is_none() && is_ended(x, ending, &structures.as_slice()[0]) {
+    if found.is_none() && is_finished(x, ending, &structures.as_slice()[0]) {
         *out = structures;
         return Ok(());
     }
-    push_taken(x, ending, found, structures, scratch, out)
+    replace_only(x, ending, found, structures, scratch, out)
 }
 
-/// The same for each of the structures that came of a stable one; each goes as soon as it is coerced.
+/// Coerces and finishes structures that came of a stable one. Each goes as soon as it is coerced.
 #[inline(never)]
-fn push_several(
+fn coerce_each(
     x: &Setting,
     ending: Ending,
     waiting: &RuleSet,
@@ -185,14 +186,15 @@ fn push_several(
 {
     for s in structures.into_vec() {
         let few = waiting_in(x, waiting, parent, &s)?;
-        push_found(x, ending, few, s, scratch, out)?;
+        coerce_if_unmet(x, ending, few, s, scratch, out)?;
     }
     Ok(())
 }
 
-/// The same. Where no value differs no rule is tried, and where a structure is over the same individuals and
-/// summaries only the rules about a predicate whose values differ.
-pub fn push_all(
+/// Coerces and finishes the structures that came of a stable one, and puts them behind the others. Where no
+/// value differs no rule is tried, and where a structure is over the same individuals and summaries only the
+/// rules about a predicate whose values differ.
+pub fn coerce_all(
     x: &Setting,
     ending: Ending,
     waiting: &RuleSet,
@@ -214,7 +216,7 @@ pub fn push_all(
 {
     if out.len() == 0 && structures.len() == 1 {
         let found = waiting_in(x, waiting, parent, &structures.as_slice()[0])?;
-        return push_only(x, ending, found, structures, scratch, out);
+        return coerce_only(x, ending, found, structures, scratch, out);
     }
-    push_several(x, ending, waiting, parent, structures, scratch, out)
+    coerce_each(x, ending, waiting, parent, structures, scratch, out)
 }

@@ -17,7 +17,7 @@ ghost use Rattle.tv_step.specs.Steps.{IsCauseOfFocus};
 ghost use Rattle.tv_step.specs.Waiting.{IsShared};
 
 use crate::changed::{Parent, Reach, Redefined};
-use crate::coerced::{Ending, push_all};
+use crate::coerced::{Ending, coerce_all};
 use crate::setting::Setting;
 use crate::waiting::{Shared, waiting_at};
 use std::alloc::AllocError;
@@ -115,7 +115,7 @@ fn push_focused(
                 reach: Reach::Anywhere,
                 redefined: Redefined::none(),
             };
-            Ok(push_all(
+            Ok(coerce_all(
                 x,
                 Ending::Open,
                 &turn.waiting,

@@ -13,9 +13,10 @@ mod order;
 mod picks;
 mod setting;
 mod step;
+mod stepper;
 mod waiting;
 
-pub use engine::Engine;
 pub use messages::Values;
 pub use opened::opening;
 pub use step::{StepOut, abstract_step};
+pub use stepper::Stepper;

@@ -16,7 +16,7 @@ ghost use Rattle.tv_step.specs.Steps.{IsCauseOfUpdate};
 ghost use Rattle.tv_step.specs.Allowed.{precondition_values};
 
 use crate::changed::{Parent, Reach, Redefined};
-use crate::coerced::{Ending, push_all};
+use crate::coerced::{Ending, coerce_all};
 use crate::job::Job;
 use crate::setting::Setting;
 use tv_eval::{Assignment, Evaluator, Scratch, eval};
@@ -75,9 +75,9 @@ fn reach_of<'a>(job: &'a Job<'_>) -> Reach<'a>
     Reach::Of(job.action.updates.as_slice(), job.plan.as_slice())
 }
 
-/// Puts what the action gives under the picked individuals, which pass the precondition, behind the others:
-/// coerced and blurred.
-fn push_given(
+/// Applies the action under picked individuals that pass its precondition. What it gives is coerced, blurred
+/// and put behind the others.
+fn apply_under(
     c: &Case,
     picks: &Assignment,
     scratch: &mut Scratch,
@@ -113,7 +113,7 @@ fn push_given(
             defining: c.job.defining.as_slice(),
         },
     };
-    push_all(
+    coerce_all(
         x,
         Ending::Blurred,
         &c.job.waiting,
@@ -125,8 +125,8 @@ fn push_given(
     Ok(())
 }
 
-/// The same where nothing is told of the precondition: nothing is put where it is `No`.
-fn push_passed(
+/// Applies the action under the picked individuals, unless its precondition is `No` there.
+fn apply_if_passed(
     c: &Case,
     picks: &Assignment,
     scratch: &mut Scratch,
@@ -145,7 +145,7 @@ fn push_passed(
     if !is_passed(c, picks, scratch) {
         return Ok(());
     }
-    push_given(c, picks, scratch, out)
+    apply_under(c, picks, scratch, out)
 }
 
 /// The values of the precondition for all individuals, put for `v`; `Yes` where there is none.
@@ -168,9 +168,9 @@ fn precondition_row(c: &Case, v: Var, picks: &Assignment, scratch: &mut Scratch)
     }
 }
 
-/// The same where each individual is put for the last variable: only those are tried under which the
+/// Applies the action with each individual put for the last variable. Only those are tried under which the
 /// precondition isn't `No`, which one row of its values tells.
-fn push_last(
+fn pick_last(
     c: &Case,
     v: Var,
     picks: &Assignment,
@@ -193,15 +193,16 @@ fn push_last(
     let mut from = 0;
     while let Some(u) = row.next_possible(from) {
         here.set(v, u);
-        push_given(c, &here, scratch, out)?;
+        apply_under(c, &here, scratch, out)?;
         from = u + 1;
     }
     Ok(())
 }
 
-/// The same for each list of individuals that is put for the variables that are left, in lexicographic order.
+/// Applies the action with each list of individuals put for the variables that are left, in lexicographic
+/// order.
 #[cycle(picked)]
-fn push_picked(
+fn pick_left(
     c: &Case,
     left: &[Var],
     picks: &Assignment,
@@ -220,14 +221,14 @@ fn push_picked(
     ensures scratch { scratch.new ≡ scratch.old }
 {
     match left {
-        [] => push_passed(c, picks, scratch, out),
-        [v, rest @ ..] => push_each(c, *v, rest, picks, scratch, out),
+        [] => apply_if_passed(c, picks, scratch, out),
+        [v, rest @ ..] => pick_each(c, *v, rest, picks, scratch, out),
     }
 }
 
-/// The same where each individual is put for the variable `v`, and then some for those that are left.
+/// Applies the action with each individual put for `v`, and each list for the variables that are left.
 #[cycle(picked)]
-fn push_each(
+fn pick_each(
     c: &Case,
     v: Var,
     left: &[Var],
@@ -248,18 +249,18 @@ fn push_each(
     ensures scratch { scratch.new ≡ scratch.old }
 {
     if left.is_empty() {
-        return push_last(c, v, picks, scratch, out);
+        return pick_last(c, v, picks, scratch, out);
     }
     let mut here = *picks;
     for u in 0..c.from.size() {
         here.set(v, u);
-        push_picked(c, left, &here, scratch, out)?;
+        pick_left(c, left, &here, scratch, out)?;
     }
     Ok(())
 }
 
-/// Puts what the action gives from the structure, under all that it may pick, behind the others.
-pub fn push_steps(c: &Case, scratch: &mut Scratch, out: &mut Structures) -> Result<(), StageError>
+/// Applies the action to the structure under all that it may pick, and puts what it gives behind the others.
+pub fn apply_action(c: &Case, scratch: &mut Scratch, out: &mut Structures) -> Result<(), StageError>
     requires case { IsCase c.now scratch.old }
     ensures out { OnOk result (Adds (StepsIn (case_program c.now) (case_mode c.now) (case_action c.now))
         (case_structure c.now) out.old out.new) }
@@ -271,5 +272,5 @@ pub fn push_steps(c: &Case, scratch: &mut Scratch, out: &mut Structures) -> Resu
     if !are_few(c.from.size(), picked.len()) {
         return Err(StageError::Splits);
     }
-    push_picked(c, picked, &Assignment::new(), scratch, out)
+    pick_left(c, picked, &Assignment::new(), scratch, out)
 }

@@ -21,7 +21,7 @@ use crate::focus::{after_turn, at_hand};
 use crate::job::{Job, edge_at, job_of};
 use crate::messages::{Values, values_of};
 use crate::order::in_order;
-use crate::picks::{Case, push_steps};
+use crate::picks::{Case, apply_action};
 use crate::setting::Setting;
 use crate::waiting::shared_sets;
 use std::alloc::Global;
@@ -63,7 +63,7 @@ fn given<'a, 'b>(
             job,
             from,
         };
-        push_steps(&case, scratch, &mut out)?;
+        apply_action(&case, scratch, &mut out)?;
     }
     Ok(out)
 }
@@ -123,7 +123,7 @@ pub fn step_from(
 /// The abstract step of a structure along an edge: its results, strictly sorted, and the values of the
 /// messages. `Splits` only where a stage of the step has over 4,096 choices, `Individuals` only where it
 /// makes a structure of over 256 individuals; where it does either, the answer is one of the two or `Memory`.
-/// For many steps an `Engine` makes once what this makes anew.
+/// For many steps a `Stepper` makes once what this makes anew.
 pub fn abstract_step(
     alloc: Global,
     program: &Program,

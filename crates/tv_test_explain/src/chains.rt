@@ -185,48 +185,48 @@ static REFUSALS: [Row<'static, 'static, 'static, 'static>; 7] = [
     Row {
         words: &["message", "p", "i", "3", "0", "--max-structures", "1"],
         code: 4,
-        err: "tvla: more than 1 structures\n",
+        err: "tvla-explain: more than 1 structures\n",
         ..ASKED
     },
     Row {
         words: &["structure", "p", "i", "L0", "0", "--max-structures", "2"],
         code: 4,
-        err: "tvla: more than 2 structures\n",
+        err: "tvla-explain: more than 2 structures\n",
         ..ASKED
     },
     Row {
         words: &["message", "p", "i", "0", "0"],
         files: &[("p", PROGRAM), ("i", "%n = {} %p = { c = 1 }")],
         code: 3,
-        err: "tvla: initial: NameUnknown\n",
+        err: "tvla-explain: initial: NameUnknown (./tvla-lint with the same words tells where)\n",
         ..PLAIN
     },
     Row {
         words: &["structure", "p", "i", "L0", "0"],
         files: &[("p", PROGRAM), ("i", "%n")],
         code: 3,
-        err: "tvla: initial: Syntax at 1:3\n",
+        err: "tvla-explain: initial: Syntax at 1:3 (./tvla-lint with the same words tells where)\n",
         ..PLAIN
     },
     Row {
         words: &["message", "p", "i", "0", "0"],
         files: &[("p", "%p x( %% %%"), ("i", "%n")],
         code: 3,
-        err: "tvla: program: Syntax at 1:7\n",
+        err: "tvla-explain: program: Syntax at 1:7 (./tvla-lint with the same words tells where)\n",
         ..PLAIN
     },
     Row {
         words: &["structure", "p", "i", "L0", "0"],
         files: &[("i", OFF)],
         code: 5,
-        err: "tvla: read fault\n",
+        err: "tvla-explain: read fault\n",
         ..PLAIN
     },
     Row {
         words: &["message", "p", "i", "9", "0"],
         files: &[("p", PROGRAM)],
         code: 5,
-        err: "tvla: read fault\n",
+        err: "tvla-explain: read fault\n",
         ..PLAIN
     },
 ];

@@ -132,22 +132,22 @@ static ROWS: [Row<'static, 'static, 'static, 'static>; 7] = [
     },
     Row {
         files: &[("s", "vars {x}")],
-        err: "tvla: source: Syntax at 1:9\n",
+        err: "tvla-explain: source: Syntax at 1:9 (./tvla-lint with the same words tells where)\n",
         ..REFUSED
     },
     Row {
         files: &[("s", "vars {x} fields {n} x = y")],
-        err: "tvla: source: NameUnknown\n",
+        err: "tvla-explain: source: NameUnknown (./tvla-lint with the same words tells where)\n",
         ..REFUSED
     },
     Row {
         files: &[("s", "vars {x} fields {n} x = ~")],
-        err: "tvla: source: BadByte\n",
+        err: "tvla-explain: source: BadByte (./tvla-lint with the same words tells where)\n",
         ..REFUSED
     },
     Row {
         code: 5,
-        err: "tvla: read fault\n",
+        err: "tvla-explain: read fault\n",
         ..ASKED
     },
 ];

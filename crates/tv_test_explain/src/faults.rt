@@ -32,7 +32,7 @@ fn faults_met(alloc: Global) -> Result<Option<u64>, AllocError> {
         let faulty = Row {
             code: 5,
             out: "",
-            err: "tvla: read fault\n",
+            err: "tvla-explain: read fault\n",
             ..calm
         };
         if wrong_part(alloc, &faulty)?.is_some() {
@@ -55,7 +55,7 @@ static WRITES: [Row<'static, 'static, 'static, 'static>; 3] = [
         out_fail: &[2],
         code: 6,
         out: "node L0 st",
-        err: "tvla: write fault\n",
+        err: "tvla-explain: write fault\n",
         ..SHOW
     },
     Row {
@@ -63,7 +63,7 @@ static WRITES: [Row<'static, 'static, 'static, 'static>; 3] = [
         err_fail: &[2],
         code: 6,
         out: "node L0 st",
-        err: "tvla: writ",
+        err: "tvla-expla",
         ..SHOW
     },
     Row {

@@ -211,7 +211,7 @@ edge 0 loses 1 of 1 structures, first 0  p:2  L1 set ( ) L2
         out_fail: &[2],
         code: 6,
         out: "node L2 li",
-        err: "tvla: write fault\n",
+        err: "tvla-explain: write fault\n",
         ..LOST
     },
 ];
@@ -227,42 +227,42 @@ static REFUSALS: [Row<'static, 'static, 'static, 'static>; 6] = [
         words: &["losses", "p", "i", "--recompute", "--max-structures", "1"],
         files: &FREE_OF_BOTH,
         code: 4,
-        err: "tvla: more than 1 structures\n",
+        err: "tvla-explain: more than 1 structures\n",
         ..PLAIN
     },
     Row {
         words: &["losses", "p", "i"],
         files: &[("p", "%p x( %% %%"), ("i", "%n")],
         code: 3,
-        err: "tvla: program: Syntax at 1:7\n",
+        err: "tvla-explain: program: Syntax at 1:7 (./tvla-lint with the same words tells where)\n",
         ..PLAIN
     },
     Row {
         words: &["losses", "p", "i"],
         files: &[("p", CYCLE), ("i", "%n")],
         code: 3,
-        err: "tvla: initial: Syntax at 1:3\n",
+        err: "tvla-explain: initial: Syntax at 1:3 (./tvla-lint with the same words tells where)\n",
         ..PLAIN
     },
     Row {
         words: &["losses", "p", "i"],
         files: &[("p", CYCLE), ("i", "%n = {} %p = { c = 1 }")],
         code: 3,
-        err: "tvla: initial: NameUnknown\n",
+        err: "tvla-explain: initial: NameUnknown (./tvla-lint with the same words tells where)\n",
         ..PLAIN
     },
     Row {
         words: &["losses", "p", "i"],
         files: &[("p", CYCLE)],
         code: 5,
-        err: "tvla: read fault\n",
+        err: "tvla-explain: read fault\n",
         ..PLAIN
     },
     Row {
         words: &["losses", "p", "i"],
         files: &[("i", "%n = {} %p = {}")],
         code: 5,
-        err: "tvla: read fault\n",
+        err: "tvla-explain: read fault\n",
         ..PLAIN
     },
 ];

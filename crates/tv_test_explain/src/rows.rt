@@ -8,7 +8,7 @@ const FAULT: Row<'static, 'static, 'static, 'static> = Row { code: 3, ..PLAIN };
 
 const NOT_READ: Row<'static, 'static, 'static, 'static> = Row {
     code: 5,
-    err: "tvla: read fault\n",
+    err: "tvla-explain: read fault\n",
     ..PLAIN
 };
 
@@ -52,49 +52,49 @@ edge 2  main:6  L0 Go ( ) L1
     Row {
         words: &["edges", "p"],
         files: &[("p", "%p x( %% %%")],
-        err: "tvla: program: Syntax at 1:7\n",
+        err: "tvla-explain: program: Syntax at 1:7 (./tvla-lint with the same words tells where)\n",
         ..FAULT
     },
     Row {
         words: &["show", "p", "r"],
         files: &[("p", "%p x( %% %%"), ("r", "")],
-        err: "tvla: program: Syntax at 1:7\n",
+        err: "tvla-explain: program: Syntax at 1:7 (./tvla-lint with the same words tells where)\n",
         ..FAULT
     },
     Row {
         words: &["edges", "p"],
         files: &[("p", "%s S T %% %%")],
-        err: "tvla: program: NameUnknown\n",
+        err: "tvla-explain: program: NameUnknown (./tvla-lint with the same words tells where)\n",
         ..FAULT
     },
     Row {
         words: &["edges", "p"],
         files: &[("p", "%r b() ==> 0 %% %%")],
-        err: "tvla: program: NameUnknown\n",
+        err: "tvla-explain: program: NameUnknown (./tvla-lint with the same words tells where)\n",
         ..FAULT
     },
     Row {
         words: &["edges", "p"],
         files: &[("p", "%p b() %% %% $")],
-        err: "tvla: program: BadByte\n",
+        err: "tvla-explain: program: BadByte (./tvla-lint with the same words tells where)\n",
         ..FAULT
     },
     Row {
         words: &["edges", "p"],
         files: &[("p", "#include q\n")],
-        err: "tvla: program: IncludeForm\n",
+        err: "tvla-explain: program: IncludeForm (./tvla-lint with the same words tells where)\n",
         ..FAULT
     },
     Row {
         words: &["show", "p", "r"],
         files: &[("p", PROGRAM), ("r", "tvla report 2")],
-        err: "tvla: report: ReportForm at 1:14\n",
+        err: "tvla-explain: report: ReportForm at 1:14 (./tvla-lint with the same words tells where)\n",
         ..FAULT
     },
     Row {
         words: &["show", "p", "r"],
         files: &[("p", PROGRAM), ("r", "$")],
-        err: "tvla: report: BadByte\n",
+        err: "tvla-explain: report: BadByte (./tvla-lint with the same words tells where)\n",
         ..FAULT
     },
     Row {

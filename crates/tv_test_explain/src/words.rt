@@ -75,7 +75,7 @@ fn wrong_part_where_absent(alloc: Global, row: &str) -> Result<Option<&'static s
     let Some((line, told)) = row.split_once(';') else {
         return Ok(Some("row"));
     };
-    let err = format!(in alloc; "tvla: {told}\n")?;
+    let err = format!(in alloc; "tvla-explain: {told}\n")?;
     wrong_part_of(alloc, line, &err)
 }
 

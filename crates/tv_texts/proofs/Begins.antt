@@ -1,7 +1,7 @@
 -- How often files are begun, as an answer tells it.
 use Rattle.std.proofs.Common.{ℕ, Option, Result, Ok, Err}
 use Rattle.tv_lex.proofs.Begins.{begins_at_most}
-use Rattle.tv_lex.specs.Gather.{BeginsBy, BeginsUpTo as gathering_begins}
+use Rattle.tv_lex.specs.Gather.{BeginsAtMost, BeginsBy, BeginsUpTo as gathering_begins}
 use Rattle.tv_lex.specs.declared.gatherer.GatherError.{GatherError}
 use Rattle.tv_lex.specs.declared.gatherer.GatherError.TheVariants as gathering
 use Rattle.tv_outside.specs.Told.{Held}
@@ -27,3 +27,11 @@ begins_anyway (Ok found) told times old new h = h
 begins_anyway (Err (Refused its kind)) told times old new h = h
 begins_anyway (Err NotRead) told times old new h = begins_at_most told times old new h
 begins_anyway (Err Memory) told times old new h = begins_at_most told times old new h
+
+-- and any answer has an upper bound
+pub begun_at_most : {T : Type 0} (result : Result T TextFault) (told : Option Held) (times : Held → ℕ) (old new : ℕ)
+    → BeginsUpTo result told times old new → BeginsAtMost told times old new
+begun_at_most (Ok found) told times old new h = begins_at_most told times old new h
+begun_at_most (Err (Refused its kind)) told times old new h = begins_at_most told times old new h
+begun_at_most (Err NotRead) told times old new h = h
+begun_at_most (Err Memory) told times old new h = h

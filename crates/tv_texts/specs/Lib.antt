@@ -2,4 +2,4 @@ pub mod Meaning
 pub mod Files
 pub mod Agreement
 pub mod Faults
-pub mod Delivery
+pub mod Sources

@@ -15,7 +15,6 @@ mod Later
 mod Limits
 mod Maps
 mod OneAnswer
-mod OneDifferenced
 mod SameTexts
 mod Sources
 mod Sums

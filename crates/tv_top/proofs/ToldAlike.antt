@@ -11,6 +11,7 @@ use Rattle.tv_status.specs.declared.status.Role.{Role}
 use Rattle.tv_status.specs.declared.status.Role.TheVariants as role
 use Rattle.tv_status.specs.declared.status.Status.{Status}
 use Rattle.tv_status.specs.declared.status.Status.TheVariants.{FileFault}
+use Rattle.tv_status.specs.declared.status.Teller.TheVariants.{Analyzer}
 use Rattle.tv_texts.specs.Agreement.{placeless}
 use Rattle.tv_top.specs.Call.{without_place}
 use Rattle.tv_top.specs.One.{AreToldAlike}
@@ -43,7 +44,7 @@ same_placed other = refl
 
 -- a fault is told by its name
 named_alike : (r : Role) (k j : FileKind) (place : Option Place) → kind_name k ≡ kind_name j
-    → file_fault_text r k place ≡ file_fault_text r j place
+    → file_fault_text Analyzer r k place ≡ file_fault_text Analyzer r j place
 unfolding file_fault_text
 named_alike r k j None same = rw same refl
 named_alike r k j (Some place) same = rw same refl
@@ -52,9 +53,17 @@ module _ (r : Role) (k j : FileKind) (named : kind_name k ≡ kind_name j) where
   by_places : (p q : Option Place) → is_placed p ≡ is_placed q → place_of k ≡ p → place_of j ≡ q
       → AreToldAlike (FileFault r k) (FileFault r j)
   by_places None None same at to =
-      inl (ap (file_fault_text r k) at ∙ named_alike r k j None named ∙ ap (file_fault_text r j) (sym to))
+      inl (ap (file_fault_text Analyzer r k) at ∙ named_alike r k j None named
+      ∙ ap (file_fault_text Analyzer r j) (sym to))
   by_places (Some p) (Some q) same at to =
-      inr (r, k, p, q, ap (file_fault_text r k) at, ap (file_fault_text r j) to ∙ sym (named_alike r k j (Some q) named))
+      inr (
+        r,
+        k,
+        p,
+        q,
+        ap (file_fault_text Analyzer r k) at,
+        ap (file_fault_text Analyzer r j) to ∙ sym (named_alike r k j (Some q) named),
+      )
   by_places None (Some q) same at to = absurd cc
   by_places (Some p) None same at to = absurd cc
 

@@ -7,6 +7,7 @@ use Rattle.tv_status.specs.declared.status.FileKind.{FileKind}
 use Rattle.tv_status.specs.declared.status.Role.{Role}
 use Rattle.tv_status.specs.declared.status.Status.{Status}
 use Rattle.tv_status.specs.declared.status.Status.TheVariants.{Structures, TooManySplits, TooManyIndividuals}
+use Rattle.tv_status.specs.declared.status.Teller.TheVariants.{Analyzer}
 use Rattle.tv_top.specs.Call.{EndsFor, IsAnswerTo, IsCause, without_place}
 use Rattle.tv_top.specs.Delivery.{OutTook}
 
@@ -26,8 +27,9 @@ IsLimit other = ⊥
 -- the lines of both statuses for the standard error are one; or they tell one fault at two places
 abbrev pub AreToldAlike : (a b : Status) → Type 0
 AreToldAlike a b = (text_of a ≡ text_of b)
-    ⊎ ((role : Role) × (kind : FileKind) × (p q : Place) × (text_of a ≡ file_fault_text role kind (Some p))
-    × (text_of b ≡ file_fault_text role kind (Some q)))
+    ⊎ ((role : Role) × (kind : FileKind) × (p q : Place)
+    × (text_of a ≡ file_fault_text Analyzer role kind (Some p))
+    × (text_of b ≡ file_fault_text Analyzer role kind (Some q)))
 
 -- both statuses are one, places aside, and so are the texts, those for the standard error too; or both calls
 -- passed a limit, whichever they came to first

@@ -3,7 +3,7 @@
 ghost use Rattle.std.specs.Prelude.{◌≡◌, ◌⊎◌, ◌≤◌};
 ghost use Rattle.tv_outside.specs.Count.{Rose};
 ghost use Rattle.tv_status.specs.Status.{text_of};
-ghost use Rattle.tv_texts.specs.Delivery.{StopsAtFailure};
+ghost use Rattle.tv_status.specs.Delivery.{StopsAtFailure};
 ghost use Rattle.tv_top.specs.Delivery.{OutTook, ErrTook, IsText, IsFault, EndsAs, Takes, GivesText};
 
 use crate::fault::{Answer, Fault};

@@ -4,7 +4,7 @@
 ghost use Rattle.std.specs.Prelude.{◌≡◌, ◌⊎◌, ◌≤◌, ◌++◌, ℕ, List, Some};
 ghost use Rattle.tv_outside.specs.Count.{Rose};
 ghost use Rattle.tv_outside.specs.Told.{Held};
-ghost use Rattle.tv_texts.specs.Delivery.{StopsAtFailure};
+ghost use Rattle.tv_status.specs.Delivery.{StopsAtFailure};
 ghost use Rattle.tv_top.specs.Begins.{BeginsDuly, BeginsWithin};
 ghost use Rattle.tv_top.specs.Call.{IsAnswerTo, IsCause, EndsFor, EndsDuly, IsExcuse, HoldsOperands};
 ghost use Rattle.tv_top.specs.Call.{UnlessFault};

@@ -1,9 +1,10 @@
-mod Placing
 mod Adding
-mod Kept
-mod Stepping
 mod Aiming
-mod Following
-mod Levelling
-mod Walking
 mod Answering
+mod Ends
+mod Following
+mod Kept
+mod Levelling
+mod Placing
+mod Stepping
+mod Walking

@@ -1,37 +1,38 @@
 //! Structures are followed level by level: those of one level are met in as many steps.
 
-ghost use Rattle.std.specs.Prelude.{◌≡◌, ◌≤◌, length, IfErr, IfOk, OnOk};
-ghost use Rattle.tv_work.specs.Analyzed.{IsWorkCause};
-ghost use Rattle.tv_work.specs.Task.{reached_in};
-ghost use Rattle.tv_trail.specs.Asked.{form_in, task_of, goal_of, IsReady};
+ghost use Rattle.std.specs.Prelude.{◌≡◌, length, IfErr, IfOk, OnOk};
+ghost use Rattle.tv_work.specs.Explored.{IsTaskCause};
+ghost use Rattle.tv_work.specs.Task.{task_of, IsReady};
+ghost use Rattle.tv_trail.specs.Asked.{goal_of};
 ghost use Rattle.tv_trail.specs.Searched.{IsState, Meets, AnswersLevel, AnswersSearch};
 ghost use Rattle.tv_trail_laws.specs.Met.{IsFromBelow, IsLevel};
 
 use crate::follow::follow;
+use crate::quest::Quest;
 use crate::search::Search;
-use crate::task::Task;
-use tv_eval::Scratch;
+use tv_step::Stepper;
 use tv_work::WorkError;
 
 /// The first place from `from` on and before `to` at which the goal is; those before it are followed.
 fn follow_level(
-    x: &Task,
+    x: &Quest,
     from: usize,
     to: usize,
-    scratch: &mut Scratch,
+    stepper: &mut Stepper,
     search: &mut Search,
 ) -> Result<Option<usize>, WorkError>
-    requires ready { IsReady x.now scratch.old }
+    requires ready { IsReady x.now.task stepper.old }
     requires to { to ≡ length search.old.found }
-    requires kept { IsState (task_of x.now) search.old }
-    ensures kept { OnOk result (IsState (task_of x.now) search.new) }
+    requires kept { IsState (task_of x.now.task) search.old }
+    ensures kept { OnOk result (IsState (task_of x.now.task) search.new) }
     ensures meets { OnOk result (Meets (IsFromBelow to) search.old search.new) }
-    ensures answer { IfOk result (AnswersLevel (task_of x.now) (goal_of x.now) from to search.new.found) }
-    ensures cause { IfErr result (IsWorkCause (form_in x.now) x.now.max (reached_in (task_of x.now))) }
-    ensures scratch { scratch.new ≡ scratch.old }
+    ensures answer { IfOk result
+        (AnswersLevel (task_of x.now.task) (goal_of x.now) from to search.new.found) }
+    ensures cause { IfErr result (IsTaskCause (task_of x.now.task)) }
+    ensures same { stepper.new ≡ stepper.old }
 {
     for place in from..to {
-        if follow(x, place, scratch, search)? {
+        if follow(x, place, stepper, search)? {
             return Ok(Some(place));
         }
     }
@@ -40,21 +41,22 @@ fn follow_level(
 
 /// The place of a goal that is met in as few steps as any, if one is reached.
 pub(crate) fn find(
-    x: &Task,
-    scratch: &mut Scratch,
+    x: &Quest,
+    stepper: &mut Stepper,
     search: &mut Search,
 ) -> Result<Option<usize>, WorkError>
-    requires ready { IsReady x.now scratch.old }
-    requires kept { IsState (task_of x.now) search.old }
-    requires level { IsLevel (task_of x.now) (goal_of x.now) search.old.found 0 0 }
-    ensures kept { OnOk result (IsState (task_of x.now) search.new) }
-    ensures answer { IfOk result (AnswersSearch (task_of x.now) (goal_of x.now) search.new.found) }
-    ensures cause { IfErr result (IsWorkCause (form_in x.now) x.now.max (reached_in (task_of x.now))) }
+    requires ready { IsReady x.now.task stepper.old }
+    requires kept { IsState (task_of x.now.task) search.old }
+    requires level { IsLevel (task_of x.now.task) (goal_of x.now) search.old.found 0 0 }
+    ensures kept { OnOk result (IsState (task_of x.now.task) search.new) }
+    ensures answer { IfOk result (AnswersSearch (task_of x.now.task) (goal_of x.now) search.new.found) }
+    ensures cause { IfErr result (IsTaskCause (task_of x.now.task)) }
+    ensures same { stepper.new ≡ stepper.old }
 {
     let mut from = 0;
     while from < search.len() {
         let to = search.len();
-        if let Some(place) = follow_level(x, from, to, scratch, search)? {
+        if let Some(place) = follow_level(x, from, to, stepper, search)? {
             return Ok(Some(place));
         }
         from = to;

@@ -4,8 +4,12 @@
 mod follow;
 mod goal;
 mod level;
+mod listed;
+mod quest;
+mod raised;
 mod search;
-mod task;
 mod trail;
 
+pub use listed::trail_to_listed;
+pub use raised::{Raised, trail_to_message};
 pub use trail::shortest_trail;

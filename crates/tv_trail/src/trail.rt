@@ -6,8 +6,9 @@ ghost use Rattle.tv_model.specs.Valid.{IsValid};
 ghost use Rattle.tv_structure_form.specs.StructureForm.{IsOver};
 ghost use Rattle.tv_work.specs.Analyzed.{IsWorkCause};
 ghost use Rattle.tv_work.specs.Reach.{Point, IsReached};
-ghost use Rattle.tv_work.specs.Task.{reached_in};
-ghost use Rattle.tv_trail.specs.Asked.{form_in, task_of, goal_of, IsReady};
+ghost use Rattle.tv_work.specs.Explored.{IsTaskCause};
+ghost use Rattle.tv_work.specs.Task.{task_of, IsReady};
+ghost use Rattle.tv_trail.specs.Asked.{goal_of};
 ghost use Rattle.tv_trail.specs.Over.{IsTrailOver};
 ghost use Rattle.tv_trail.specs.Searched.{IsState, AnswersTrail};
 ghost use Rattle.tv_trail_laws.specs.Met.{IsTrailFrom};
@@ -15,15 +16,14 @@ ghost use Rattle.tv_trail_laws.specs.Trails.{IsShortest, IsGoal};
 
 use crate::follow::open_all;
 use crate::level::find;
+use crate::quest::{Quest, Request};
 use crate::search::Search;
-use crate::task::Task;
 use std::alloc::{AllocError, Global};
-use tv_eval::Scratch;
 use tv_model::{Items, Mode, Program};
-use tv_step::Engine;
-use tv_struct::{Structure, Structures};
+use tv_step::Stepper;
+use tv_struct::Structures;
 use tv_trail_laws::{Goal, Link, Origin, Trail};
-use tv_work::{WorkError, leaving_edges};
+use tv_work::{Task, WorkError, leaving_edges};
 
 /// The trail to what was met at the place. The only error is lack of memory.
 fn trail_to(x: &Task, search: &Search, place: usize) -> Result<Trail, AllocError>
@@ -54,19 +54,52 @@ fn trail_to(x: &Task, search: &Search, place: usize) -> Result<Trail, AllocError
     }
 }
 
-/// The trail that the task asks for.
-fn search_for(x: &Task, scratch: &mut Scratch) -> Result<Option<Trail>, WorkError>
-    requires { IsReady x.now scratch.old }
-    ensures answer { IfOk result (AnswersTrail (task_of x.now) (goal_of x.now)) }
-    ensures over { IfOk result (λ found. IfSome found (IsTrailOver x.now.program.now.vocab)) }
-    ensures cause { IfErr result (IsWorkCause (form_in x.now) x.now.max (reached_in (task_of x.now))) }
+/// The trail to the goal.
+fn search_for(x: &Quest, stepper: &mut Stepper) -> Result<Option<Trail>, WorkError>
+    requires { IsReady x.now.task stepper.old }
+    ensures answer { IfOk result (AnswersTrail (task_of x.now.task) (goal_of x.now)) }
+    ensures over { IfOk result (λ found. IfSome found (IsTrailOver x.now.task.program.now.vocab)) }
+    ensures cause { IfErr result (IsTaskCause (task_of x.now.task)) }
+    ensures same { stepper.new ≡ stepper.old }
 {
-    let mut search = Search::new(x.alloc, x.program.nodes.len() as u32)?;
-    open_all(x, scratch, &mut search)?;
-    match find(x, scratch, &mut search)? {
+    let mut search = Search::new(x.task.alloc, x.task.program.nodes.len() as u32)?;
+    open_all(&x.task, stepper, &mut search)?;
+    match find(x, stepper, &mut search)? {
         None => Ok(None),
-        Some(place) => Ok(Some(trail_to(x, &search, place)?)),
+        Some(place) => Ok(Some(trail_to(&x.task, &search, place)?)),
     }
+}
+
+/// The trail that the stepper finds to a goal that is met in as few steps as any, if one is reached.
+pub(crate) fn trail_by(
+    stepper: &mut Stepper,
+    x: &Request,
+    goal: &Goal,
+) -> Result<Option<Trail>, WorkError>
+    requires stepper { stepper.old ≡ record { program = x.now.program.now; mode = x.now.mode } }
+    requires valid { IsValid (program_of x.now.program.now) }
+    requires initial { All (IsOver x.now.program.now.vocab) x.now.initial.now }
+    ensures some { IfOk result (λ found. IfSome found (IsShortest (program_of x.now.program.now) x.now.mode
+        x.now.initial.now (IsGoal (program_of x.now.program.now) goal.now))) }
+    ensures none { IfOk result (λ found. IfNone found ((y : Point)
+        → IsReached (program_of x.now.program.now) x.now.mode x.now.initial.now y
+        → ¬ IsGoal (program_of x.now.program.now) goal.now y)) }
+    ensures over { IfOk result (λ found. IfSome found (IsTrailOver x.now.program.now.vocab)) }
+    ensures cause { IfErr result (IsWorkCause (program_of x.now.program.now) x.now.max
+        (IsReached (program_of x.now.program.now) x.now.mode x.now.initial.now)) }
+    ensures same { stepper.new ≡ stepper.old }
+{
+    let leaving = leaving_edges(x.alloc, x.program)?;
+    let task = Task {
+        alloc: x.alloc,
+        program: x.program,
+        leaving: &leaving,
+        initial: x.initial.as_slice(),
+        mode: x.mode,
+        max: x.max,
+    };
+    let quest = Quest { task, goal: *goal };
+    search_for(&quest, stepper)
 }
 
 /// The trail to a goal that is met in as few steps as any, none where no goal is reached. `Structures` only
@@ -91,18 +124,13 @@ pub fn shortest_trail(
     ensures cause { IfErr result (IsWorkCause (program_of program.now) max
         (IsReached (program_of program.now) mode initial.now)) }
 {
-    let engine = Engine::new(alloc, program, mode)?;
-    let leaving = leaving_edges(alloc, program)?;
-    let mut scratch = Scratch::new(alloc, program, 256)?;
-    let task = Task {
+    let mut stepper = Stepper::new(alloc, program, mode)?;
+    let request = Request {
         alloc,
         program,
-        engine: &engine,
-        leaving: &leaving,
-        initial: initial.as_slice(),
+        initial,
         mode,
         max,
-        goal: *goal,
     };
-    search_for(&task, &mut scratch)
+    trail_by(&mut stepper, &request, goal)
 }

@@ -9,12 +9,17 @@ use Rattle.tv_structure_form.specs.StructureForm.{StructureForm}
 use Rattle.tv_step_laws.specs.Budgets.{KeepsBudgets}
 use Rattle.tv_step_laws.specs.Settled.{IsSettled}
 use Rattle.tv_step_laws.specs.Transfer.{AreResults, IsMessageValue, IsOpening, HasNoOpening}
-use Rattle.tv_work.specs.Analyzed.{IsSaid}
+use Rattle.tv_work.specs.Analyzed.{IsSaid, IsWorkCause}
 use Rattle.tv_work.specs.Reach.{Point, IsListed}
 use Rattle.tv_work.specs.Search.{SearchForm, StandsFor, Waits, IsWithin, IsOnce, Grows}
 use Rattle.tv_work.specs.Task.{TaskForm, reached_in}
 use Rattle.tv_work.specs.Told.{told_value}
+use Rattle.tv_work.specs.declared.error.WorkError.{WorkError}
 use Rattle.tv_work.specs.declared.search.Waiting.{Waiting}
+
+-- why what the task asks for isn't found
+abbrev pub IsTaskCause : TaskForm → WorkError → Type 0
+IsTaskCause t = IsWorkCause t.program t.max (reached_in t)
 
 -- only reached structures are listed, each of them settled
 pub record IsSearchState (t : TaskForm) (s : SearchForm) : Type 0 where

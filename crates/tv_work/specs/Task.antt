@@ -3,7 +3,7 @@ use Rattle.std.specs.Prelude.{ℕ, ◌≡◌, List, length, All}
 use Rattle.tv_model.specs.declared.program.Mode.{Mode}
 use Rattle.tv_model.specs.Program.{ProgramForm, program_of}
 use Rattle.tv_model.specs.Valid.{IsValid}
-use Rattle.tv_eval.specs.ScratchForm.{ScratchForm, IsMadeFor}
+use Rattle.tv_step.specs.EngineForm.{EngineForm}
 use Rattle.tv_structure_form.specs.StructureForm.{StructureForm, IsOver}
 use Rattle.tv_work.specs.Leaving.{AreLeaving}
 use Rattle.tv_work.specs.Reach.{Point, IsReached}
@@ -16,21 +16,18 @@ pub record TaskForm : Type 0 where
   pub initial : List StructureForm
   pub max : ℕ
 
-abbrev pub form_in : Task → ProgramForm
-form_in x = program_of x.program.now
-
 abbrev pub task_of : Task → TaskForm
-task_of x = record { program = form_in x; mode = x.mode; initial = x.initial.now; max = x.max }
+task_of x = record { program = program_of x.program.now; mode = x.mode; initial = x.initial.now; max = x.max }
 
 -- the points that are reached
 abbrev pub reached_in : TaskForm → Point → Type 0
 reached_in t = IsReached t.program t.mode t.initial
 
--- the program is valid, the engine is that of the program and the mode, the edges are listed by their
--- sources, the initial structures are over the vocabulary, and the scratch was made for the program
-pub record IsReady (x : Task) (scratch : ScratchForm) : Type 0 where
-  pub valid : IsValid (form_in x)
-  pub engine : x.engine.now ≡ record { program = x.program.now; mode = x.mode }
-  pub leaving : AreLeaving (form_in x).edges (length (form_in x).nodes) x.leaving.now
+-- the program is valid, the stepper is that of the program and the mode, the edges are listed by their
+-- sources, and the initial structures are over the vocabulary
+pub record IsReady (x : Task) (stepper : EngineForm) : Type 0 where
+  pub valid : IsValid (program_of x.program.now)
+  pub made : stepper ≡ record { program = x.program.now; mode = x.mode }
+  pub leaving : AreLeaving (program_of x.program.now).edges (length (program_of x.program.now).nodes)
+      x.leaving.now
   pub initial : All (IsOver x.program.now.vocab) x.initial.now
-  pub room : IsMadeFor (form_in x) 256 scratch

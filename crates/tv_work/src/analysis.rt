@@ -7,9 +7,9 @@ ghost use Rattle.tv_model.specs.Valid.{IsValid};
 ghost use Rattle.tv_structure_form.specs.StructureForm.{IsStructure, IsOver};
 ghost use Rattle.tv_step_laws.specs.Closed.{IsClosed, CoversRuns};
 ghost use Rattle.tv_work.specs.Analyzed.{IsAnalysis, IsWorkCause};
-ghost use Rattle.tv_work.specs.Explored.{IsExplored};
+ghost use Rattle.tv_work.specs.Explored.{IsExplored, IsTaskCause};
 ghost use Rattle.tv_work.specs.Reach.{IsReached};
-ghost use Rattle.tv_work.specs.Task.{form_in, task_of, IsReady, reached_in};
+ghost use Rattle.tv_work.specs.Task.{task_of, IsReady};
 ghost use Rattle.tv_work.specs.Told.{AreLines};
 
 use crate::WorkError;
@@ -19,10 +19,9 @@ use crate::search::Search;
 use crate::task::Task;
 use crate::told::Told;
 use std::alloc::{AllocError, Global};
-use tv_eval::Scratch;
 use tv_listing::{Analysis, Listing};
 use tv_model::{Items, Mode, Program};
-use tv_step::Engine;
+use tv_step::Stepper;
 use tv_struct::Structures;
 
 /// What was listed, and what was told of messages.
@@ -33,15 +32,15 @@ struct Found {
 }
 
 /// All that is reached, in the order in which it was met.
-fn explore(x: &Task, scratch: &mut Scratch) -> Result<Found, WorkError>
-    requires { IsReady x.now scratch.old }
+fn explore(x: &Task, stepper: &mut Stepper) -> Result<Found, WorkError>
+    requires { IsReady x.now stepper.old }
     ensures found { IfOk result (λ found. IsExplored (task_of x.now) found.listing found.told) }
-    ensures cause { IfErr result (IsWorkCause (form_in x.now) x.now.max (reached_in (task_of x.now))) }
+    ensures cause { IfErr result (IsTaskCause (task_of x.now)) }
 {
     let mut search = Search::new(x.alloc, x.program.nodes.len() as u32)?;
     let mut told = Told::new(x.alloc, x.program.edges.len())?;
-    open_all(x, scratch, &mut search)?;
-    follow_all(x, scratch, &mut search, &mut told)?;
+    open_all(x, stepper, &mut search)?;
+    follow_all(x, stepper, &mut search, &mut told)?;
     Ok(Found {
         listing: search.into_listing(),
         told,
@@ -63,7 +62,7 @@ pub fn analysis_of(alloc: Global, listing: Listing, told: Told) -> Result<Analys
     })
 }
 
-/// The same in order, with a line for each message that may be true.
+/// What was found, in order, with a line for each message that may be true.
 fn answer(alloc: Global, found: Found) -> Result<Analysis, AllocError>
     requires { length found.told ≤ 16384 }
     ensures listing { IfOk result (λ a. AreSorted found.listing a.listing) }
@@ -97,18 +96,16 @@ pub fn analyze(
     ensures cause { IfErr result (IsWorkCause (program_of program.now) max
         (IsReached (program_of program.now) mode initial.now)) }
 {
-    let engine = Engine::new(alloc, program, mode)?;
+    let mut stepper = Stepper::new(alloc, program, mode)?;
     let leaving = leaving_edges(alloc, program)?;
-    let mut scratch = Scratch::new(alloc, program, 256)?;
     let task = Task {
         alloc,
         program,
-        engine: &engine,
         leaving: &leaving,
         initial: initial.as_slice(),
         mode,
         max,
     };
-    let found = explore(&task, &mut scratch)?;
+    let found = explore(&task, &mut stepper)?;
     Ok(answer(alloc, found)?)
 }

@@ -2,56 +2,53 @@
 
 ghost use Rattle.std.specs.Prelude.{◌≡◌, ◌<◌, [], All, Contains, length, IfErr, OnOk};
 ghost use Rattle.tv_listing.specs.ListingForm.{at_node};
-ghost use Rattle.tv_structure_form.specs.StructureForm.{IsOver};
-ghost use Rattle.tv_work.specs.Analyzed.{IsWorkCause};
 ghost use Rattle.tv_work.specs.Leaving.{LeavesBy};
-ghost use Rattle.tv_work.specs.Reach.{Point};
-ghost use Rattle.tv_work.specs.Search.{Grows, StandsFor};
-ghost use Rattle.tv_work.specs.Task.{form_in, task_of, IsReady, reached_in};
+ghost use Rattle.tv_work.specs.Search.{Grows};
+ghost use Rattle.tv_work.specs.Task.{task_of, IsReady};
 ghost use Rattle.tv_work.specs.Explored.{IsSearchState, AreSaid, Advances, IsOpenedIn, AreDone, DoesAlong};
-ghost use Rattle.tv_work.specs.Explored.{Does, KeepsListed};
+ghost use Rattle.tv_work.specs.Explored.{Does, IsTaskCause, KeepsListed};
 
 use crate::WorkError;
 use crate::search::{Search, Waiting};
 use crate::task::Task;
 use crate::told::Told;
-use tv_eval::Scratch;
+use tv_step::Stepper;
 use tv_struct::Structure;
 
 /// Meets the opening of an initial structure at the start node, if it has one.
 fn open(
     x: &Task,
     s: &Structure,
-    scratch: &mut Scratch,
+    stepper: &mut Stepper,
     search: &mut Search,
 ) -> Result<(), WorkError>
-    requires ready { IsReady x.now scratch.old }
+    requires ready { IsReady x.now stepper.old }
     requires initial { Contains x.now.initial.now s.now }
     requires kept { IsSearchState (task_of x.now) search.old }
     ensures kept { OnOk result (IsSearchState (task_of x.now) search.new) }
     ensures grows { OnOk result (Grows search.old search.new) }
     ensures opened { OnOk result (IsOpenedIn (task_of x.now) search.new.listing s.now) }
-    ensures cause { IfErr result (IsWorkCause (form_in x.now) x.now.max (reached_in (task_of x.now))) }
-    ensures scratch { scratch.new ≡ scratch.old }
+    ensures cause { IfErr result (IsTaskCause (task_of x.now)) }
+    ensures same { stepper.new ≡ stepper.old }
 {
-    match x.engine.opening(s, scratch)? {
+    match stepper.opening(s)? {
         None => Ok(()),
         Some(t) => search.meet(0, t, x.max),
     }
 }
 
-/// The same for all initial structures.
-pub fn open_all(x: &Task, scratch: &mut Scratch, search: &mut Search) -> Result<(), WorkError>
-    requires ready { IsReady x.now scratch.old }
+/// Meets the openings of all initial structures at the start node.
+pub fn open_all(x: &Task, stepper: &mut Stepper, search: &mut Search) -> Result<(), WorkError>
+    requires ready { IsReady x.now stepper.old }
     requires kept { IsSearchState (task_of x.now) search.old }
     ensures kept { OnOk result (IsSearchState (task_of x.now) search.new) }
     ensures grows { OnOk result (Grows search.old search.new) }
     ensures opened { OnOk result (All (IsOpenedIn (task_of x.now) search.new.listing) x.now.initial.now) }
-    ensures cause { IfErr result (IsWorkCause (form_in x.now) x.now.max (reached_in (task_of x.now))) }
-    ensures scratch { scratch.new ≡ scratch.old }
+    ensures cause { IfErr result (IsTaskCause (task_of x.now)) }
+    ensures same { stepper.new ≡ stepper.old }
 {
     for s in x.initial {
-        open(x, s, scratch, search)?;
+        open(x, s, stepper, search)?;
     }
     Ok(())
 }
@@ -62,11 +59,11 @@ fn follow_edge(
     x: &Task,
     w: Waiting,
     edge: u32,
-    scratch: &mut Scratch,
+    stepper: &mut Stepper,
     search: &mut Search,
     told: &mut Told,
 ) -> Result<(), WorkError>
-    requires ready { IsReady x.now scratch.old }
+    requires ready { IsReady x.now stepper.old }
     requires place { w.place < length (at_node search.old.listing w.node) }
     requires edge { LeavesBy x.now.program.now.edges w.node edge }
     requires kept { IsSearchState (task_of x.now) search.old }
@@ -75,11 +72,11 @@ fn follow_edge(
     ensures said { OnOk result (AreSaid (task_of x.now) search.new.listing told.new) }
     ensures advances { OnOk result (Advances search.old told.old search.new told.new) }
     ensures done { OnOk result (DoesAlong (task_of x.now) w edge search.old search.new told.new) }
-    ensures cause { IfErr result (IsWorkCause (form_in x.now) x.now.max (reached_in (task_of x.now))) }
-    ensures scratch { scratch.new ≡ scratch.old }
+    ensures cause { IfErr result (IsTaskCause (task_of x.now)) }
+    ensures same { stepper.new ≡ stepper.old }
 {
     let to = x.program.edges.as_slice()[edge as usize].to;
-    let out = x.engine.stable_step(edge, search.at(w), scratch)?;
+    let out = stepper.stable_step(edge, search.at(w))?;
     told.note(edge, &out.messages)?;
     search.meet_all(to, out.results, x.max)
 }
@@ -88,11 +85,11 @@ fn follow_edge(
 fn follow(
     x: &Task,
     w: Waiting,
-    scratch: &mut Scratch,
+    stepper: &mut Stepper,
     search: &mut Search,
     told: &mut Told,
 ) -> Result<(), WorkError>
-    requires ready { IsReady x.now scratch.old }
+    requires ready { IsReady x.now stepper.old }
     requires place { w.place < length (at_node search.old.listing w.node) }
     requires kept { IsSearchState (task_of x.now) search.old }
     requires said { AreSaid (task_of x.now) search.old.listing told.old }
@@ -100,11 +97,11 @@ fn follow(
     ensures said { OnOk result (AreSaid (task_of x.now) search.new.listing told.new) }
     ensures advances { OnOk result (Advances search.old told.old search.new told.new) }
     ensures done { OnOk result (Does (task_of x.now) w search.old search.new told.new) }
-    ensures cause { IfErr result (IsWorkCause (form_in x.now) x.now.max (reached_in (task_of x.now))) }
-    ensures scratch { scratch.new ≡ scratch.old }
+    ensures cause { IfErr result (IsTaskCause (task_of x.now)) }
+    ensures same { stepper.new ≡ stepper.old }
 {
     for edge in x.leaving[w.node as usize].as_slice() {
-        follow_edge(x, w, *edge, scratch, search, told)?;
+        follow_edge(x, w, *edge, stepper, search, told)?;
     }
     Ok(())
 }
@@ -112,11 +109,11 @@ fn follow(
 /// Follows all that waits, and what is met by that, until nothing waits.
 pub fn follow_all(
     x: &Task,
-    scratch: &mut Scratch,
+    stepper: &mut Stepper,
     search: &mut Search,
     told: &mut Told,
 ) -> Result<(), WorkError>
-    requires ready { IsReady x.now scratch.old }
+    requires ready { IsReady x.now stepper.old }
     requires kept { IsSearchState (task_of x.now) search.old }
     requires said { AreSaid (task_of x.now) search.old.listing told.old }
     requires done { AreDone (task_of x.now) search.old told.old }
@@ -125,10 +122,10 @@ pub fn follow_all(
     ensures listed { OnOk result (KeepsListed search.old.listing search.new.listing) }
     ensures done { OnOk result (AreDone (task_of x.now) search.new told.new) }
     ensures none { OnOk result (search.new.waiting ≡ []) }
-    ensures cause { IfErr result (IsWorkCause (form_in x.now) x.now.max (reached_in (task_of x.now))) }
+    ensures cause { IfErr result (IsTaskCause (task_of x.now)) }
 {
     while let Some(w) = search.pop() {
-        follow(x, w, scratch, search, told)?;
+        follow(x, w, stepper, search, told)?;
     }
     Ok(())
 }

@@ -14,4 +14,5 @@ pub use analysis::{analysis_of, analyze};
 pub use error::WorkError;
 pub use laws::analyses_are_one;
 pub use leaving::leaving_edges;
+pub use task::Task;
 pub use told::Told;

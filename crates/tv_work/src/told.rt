@@ -124,7 +124,7 @@ impl Told {
         Ok(lines)
     }
 
-    /// The same for one edge, behind the lines of those before it.
+    /// Puts a line for each value of the edge that isn't `No` behind the lines of the edges before it.
     fn push_lines(&self, edge: u32, lines: &mut MessageLines) -> Result<(), AllocError>
         requires edge { edge < length self.now }
         requires before { AreLinesTo self.now edge 0 lines.old }

@@ -4,6 +4,7 @@ use Rattle.std.specs.declared.alloc.Global.{Global}
 use Rattle.std.specs.declared.vec.IntoIter.{IntoIter}
 use Rattle.tv_outside.specs.Told.{Held}
 use Rattle.tv_real.specs.Ended.{EndsWithoutMemory, HasWords}
+use Rattle.tv_status.specs.declared.status.Teller.TheVariants.{Analyzer}
 use Rattle.tv_status.specs.declared.status.Status.{Status}
 use Rattle.tv_status.specs.declared.status.Status.TheVariants.{Memory}
 use Rattle.tv_top.specs.Begins.{BeginsDuly, BeginsWithin}
@@ -33,4 +34,4 @@ EndsSo args told read_rose steady out_rose err_rose begins_old begins_new out_ol
     status =
     HasWords args (λ words. EndsAsTold (words_of words) told read_rose steady out_rose err_rose
     begins_old begins_new out_old out_new err_old err_new status)
-    ⊎ EndsWithoutMemory err_rose out_old out_new err_old err_new status
+    ⊎ EndsWithoutMemory Analyzer err_rose out_old out_new err_old err_new status

@@ -1,9 +1,11 @@
 //! The call of the program: its words, its exit code, and the two streams.
 
+ghost use Rattle.std.specs.Prelude.{◌≡◌};
 ghost use Rattle.std.specs.Process.{exit_status};
 ghost use Rattle.tv_outside.specs.Count.{Rose};
-ghost use Rattle.tv_real.specs.Ended.{HasCodeOf};
+ghost use Rattle.tv_real.specs.Ended.{HasCodeOf, HasWords, StreamsStop};
 ghost use Rattle.tv_status.specs.Status.{code_of};
+ghost use Rattle.tv_words.specs.Words.{SpellsNothing, words_of};
 ghost use Rattle.tvla.specs.Ended.{EndsSo};
 
 use std::alloc::{AllocError, Global};
@@ -12,7 +14,7 @@ use std::io;
 use std::process::ExitCode;
 use tv_outside::{Files, Sink};
 use tv_real::{Streams, arguments, behind_the_name, without_memory};
-use tv_status::Status;
+use tv_status::{Status, Teller};
 use tv_top::tvla;
 
 /// Does the program's job with its arguments, of which the first is its name, and gives the exit code.
@@ -30,6 +32,12 @@ pub fn called<F: Files, O: Sink, E: Sink>(
         (F.begins files.old) (F.begins files.new)
         (O.taken streams.old.out) (O.taken streams.new.out)
         (E.taken streams.old.err) (E.taken streams.new.err)) }
+
+    // A stream that has failed is given nothing more, and words that spell no command have nothing read.
+    ensures stops { StreamsStop (O.failures streams.old.out) (O.failures streams.new.out)
+        (O.since streams.new.out) (E.failures streams.old.err) (E.failures streams.new.err)
+        (E.since streams.new.err) }
+    ensures unread { HasWords args (λ words. SpellsNothing (words_of words)) → files.new ≡ files.old }
 {
     ExitCode::from(ended(alloc, args, files, streams).code())
 }
@@ -41,13 +49,17 @@ fn ended<F: Files, O: Sink, E: Sink>(
     files: &mut F,
     streams: &mut Streams<O, E>,
 ) -> Status
-    ensures { EndsSo args (F.holds files.old)
+    ensures ended { EndsSo args (F.holds files.old)
         (Rose (F.faults files.old) (F.faults files.new)) (F.steady files.old)
         (Rose (O.faults streams.old.out) (O.faults streams.new.out))
         (Rose (E.faults streams.old.err) (E.faults streams.new.err))
         (F.begins files.old) (F.begins files.new)
         (O.taken streams.old.out) (O.taken streams.new.out)
         (E.taken streams.old.err) (E.taken streams.new.err) result }
+    ensures stops { StreamsStop (O.failures streams.old.out) (O.failures streams.new.out)
+        (O.since streams.new.out) (E.failures streams.old.err) (E.failures streams.new.err)
+        (E.since streams.new.err) }
+    ensures unread { HasWords args (λ words. SpellsNothing (words_of words)) → files.new ≡ files.old }
 {
     match arguments(alloc, args) {
         Ok(all) => tvla(
@@ -57,6 +69,6 @@ fn ended<F: Files, O: Sink, E: Sink>(
             &mut streams.out,
             &mut streams.err,
         ),
-        Err(AllocError) => without_memory(&mut streams.err),
+        Err(AllocError) => without_memory(&mut streams.err, Teller::Analyzer),
     }
 }

@@ -1,9 +1,12 @@
 //! The call of the program: its words, its exit code, and the two streams.
 
+ghost use Rattle.std.specs.Prelude.{◌≡◌};
 ghost use Rattle.std.specs.Process.{exit_status};
 ghost use Rattle.tv_outside.specs.Count.{Rose};
-ghost use Rattle.tv_real.specs.Ended.{HasCodeOf};
+ghost use Rattle.tv_real.specs.Ended.{HasCodeOf, HasWords, StreamsStop};
 ghost use Rattle.tv_explain.specs.Faults.{code_of};
+ghost use Rattle.tv_explain_words.specs.Words.{SpellsNothing};
+ghost use Rattle.tv_words.specs.Words.{words_of};
 ghost use Rattle.tvla_explain.specs.Ended.{EndsSo};
 
 use std::alloc::{AllocError, Global};
@@ -13,6 +16,7 @@ use std::process::ExitCode;
 use tv_explain::{Ending, explain};
 use tv_outside::{Files, Sink};
 use tv_real::{Streams, arguments, behind_the_name, without_memory};
+use tv_status::Teller;
 
 /// Does the program's job with its arguments, of which the first is its name, and gives the exit code.
 /// Arguments that can't be told as text spell no command.
@@ -26,8 +30,15 @@ pub fn called<F: Files, O: Sink, E: Sink>(
         (Rose (F.faults files.old) (F.faults files.new)) (F.steady files.old)
         (Rose (O.faults streams.old.out) (O.faults streams.new.out))
         (Rose (E.faults streams.old.err) (E.faults streams.new.err))
+        (F.begins files.old) (F.begins files.new)
         (O.taken streams.old.out) (O.taken streams.new.out)
         (E.taken streams.old.err) (E.taken streams.new.err)) }
+
+    // A stream that has failed is given nothing more, and words that spell no command have nothing read.
+    ensures stops { StreamsStop (O.failures streams.old.out) (O.failures streams.new.out)
+        (O.since streams.new.out) (E.failures streams.old.err) (E.failures streams.new.err)
+        (E.since streams.new.err) }
+    ensures unread { HasWords args (λ words. SpellsNothing (words_of words)) → files.new ≡ files.old }
 {
     ExitCode::from(ended(alloc, args, files, streams).code())
 }
@@ -39,12 +50,17 @@ fn ended<F: Files, O: Sink, E: Sink>(
     files: &mut F,
     streams: &mut Streams<O, E>,
 ) -> Ending
-    ensures { EndsSo args (F.holds files.old)
+    ensures ended { EndsSo args (F.holds files.old)
         (Rose (F.faults files.old) (F.faults files.new)) (F.steady files.old)
         (Rose (O.faults streams.old.out) (O.faults streams.new.out))
         (Rose (E.faults streams.old.err) (E.faults streams.new.err))
+        (F.begins files.old) (F.begins files.new)
         (O.taken streams.old.out) (O.taken streams.new.out)
         (E.taken streams.old.err) (E.taken streams.new.err) result }
+    ensures stops { StreamsStop (O.failures streams.old.out) (O.failures streams.new.out)
+        (O.since streams.new.out) (E.failures streams.old.err) (E.failures streams.new.err)
+        (E.since streams.new.err) }
+    ensures unread { HasWords args (λ words. SpellsNothing (words_of words)) → files.new ≡ files.old }
 {
     match arguments(alloc, args) {
         Ok(all) => explain(
@@ -54,6 +70,6 @@ fn ended<F: Files, O: Sink, E: Sink>(
             &mut streams.out,
             &mut streams.err,
         ),
-        Err(AllocError) => Ending::As(without_memory(&mut streams.err)),
+        Err(AllocError) => Ending::As(without_memory(&mut streams.err, Teller::Explainer)),
     }
 }

@@ -70,7 +70,7 @@ fn answer(
     }
 }
 
-/// The same where program and initial structures are given as texts.
+/// What is told of the analysis of a program and initial structures that are given as texts.
 pub fn outcome(alloc: Global, program: &str, initial: &str, max: u64) -> Result<String, Fail> {
     let program = whole_program(alloc, program)?;
     let initial = structures(alloc, &program, initial)?;
@@ -107,7 +107,7 @@ fn is_listed(
     }
 }
 
-/// The same where all three are given as texts.
+/// Whether the analysis lists these structures at the node; program and structures are given as texts.
 pub fn lists(
     alloc: Global,
     program: &str,

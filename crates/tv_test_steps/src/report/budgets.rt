@@ -86,7 +86,7 @@ fn is_met(alloc: Global, line: &str) -> Result<bool, Fail> {
     Ok(outcome(alloc, program.as_str(), initial.as_str(), 5000)?.as_str() == row.wanted)
 }
 
-/// The same step within a budget and past it: three cases for each of seven or eight summaries; twelve or
+/// A step within a budget, and one past it: three cases for each of seven or eight summaries; twelve or
 /// thirteen individuals that may go; pairs of 64 or 65 individuals; a new individual beside 255 or 256.
 static ROWS: &str = "7; abc; x sm; %f { x(v) }; 1 2187
 8; abc; x sm; %f { x(v) }; Splits

@@ -96,7 +96,7 @@ fn answer(
     }
 }
 
-/// The same for a goal that is given as a text.
+/// The trail to a goal that is given as a text, or why there is none.
 fn outcome(
     alloc: Global,
     program: &Program,

@@ -76,7 +76,7 @@ static GIVEN: &str = "// one of two cells is picked, and none of the two loses i
 // the given update of a definition contradicts it
 %p x(v) %i d() = E(v) x(v); { x(v) = 0 d() = 1 }; ; %n = {a} %p = { x = {a} d = 1 };";
 
-/// The same in the mode that passes over updates of definitions.
+/// Steps in the mode that passes over updates of definitions.
 static RECOMPUTED: &str =
     "%p x(v) %i d() = E(v) x(v); { x(v) = 0 d() = 1 }; ; %n = {a} %p = { x = {a} d = 1 }; %n = {i} %p = {}";
 

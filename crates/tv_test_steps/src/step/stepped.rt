@@ -6,9 +6,8 @@ ghost use Rattle.tv_structure_form.specs.StructureForm.{IsOver};
 
 use std::alloc::Global;
 use std::test::Fail;
-use tv_eval::Scratch;
 use tv_model::{Mode, Program};
-use tv_step::{Engine, StepOut};
+use tv_step::{StepOut, Stepper};
 use tv_struct::{StageError, Structure};
 
 /// An answer of a step.
@@ -19,9 +18,8 @@ pub fn stepped(alloc: Global, program: &Program, mode: Mode, s: &Structure) -> R
     requires valid { IsValid (program_of program.now) }
     requires over { IsOver program.now.vocab s.now }
 {
-    let engine = Engine::new(alloc, program, mode)?;
-    let mut scratch = Scratch::new(alloc, program, 256)?;
-    Ok(engine.step(0, s, &mut scratch))
+    let mut stepper = Stepper::new(alloc, program, mode)?;
+    Ok(stepper.step(0, s))
 }
 
 /// The step of the structure's opening, from which coerce is spared; nothing where there is no opening.
@@ -34,10 +32,9 @@ pub fn stepped_opening(
     requires valid { IsValid (program_of program.now) }
     requires over { IsOver program.now.vocab s.now }
 {
-    let engine = Engine::new(alloc, program, mode)?;
-    let mut scratch = Scratch::new(alloc, program, 256)?;
-    match engine.opening(s, &mut scratch)? {
+    let mut stepper = Stepper::new(alloc, program, mode)?;
+    match stepper.opening(s)? {
         None => Ok(None),
-        Some(t) => Ok(Some(engine.stable_step(0, &t, &mut scratch))),
+        Some(t) => Ok(Some(stepper.stable_step(0, &t))),
     }
 }

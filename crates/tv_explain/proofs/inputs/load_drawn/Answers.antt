@@ -1,5 +1,5 @@
 use Rattle.std.proofs.lemmas.Result.{IfOk-weaker}
-use Rattle.tv_lemmas.proofs.Options.{OnOk-any}
+use Rattle.tv_texts.proofs.Begins.{begins_anyway}
 use Rattle.tv_explain.proofs.inputs.load_drawn.Goals as goal
 
 pub returns-clause-means : goal.returns-clause-means
@@ -13,4 +13,4 @@ returns-clause-means g c = IfOk-weaker c.drawn_in.result _ _
 
 pub returns-clause-begins : goal.returns-clause-begins
 returns-clause-begins g c =
-    OnOk-any c.drawn_in.result _ c.in_ok-gathered.ensures.begins
+    begins_anyway c.drawn_in.result _ _ _ _ c.in_ok-gathered.ensures.begins

@@ -1,12 +1,14 @@
-use Rattle.std.proofs.Common.{◌≡◌, ◌+◌, List, Err, subst, refl}
+use Rattle.std.proofs.Common.{◌≡◌, ◌+◌, List, Result, Err, subst, refl}
 use Rattle.std.proofs.lemmas.Result.{err_from_is_err_and}
 use Rattle.tv_outside.specs.Count.{Rose}
 use Rattle.tv_status.specs.declared.status.Role.TheVariants as role
 use Rattle.tv_structure_form.specs.StructureForm.{StructureForm}
 use Rattle.tv_texts.specs.Files.{IsFileCause, IsProgramFile, LacksFile}
-use Rattle.tv_lex.proofs.Begins.{one_more}
-use Rattle.tv_texts.specs.Files.{program_begins}
+use Rattle.tv_lex.proofs.Begins.{begins_at_most, one_more}
+use Rattle.tv_texts.specs.Files.{BeginsUpTo, program_begins}
+use Rattle.tv_texts.specs.declared.fault.TextFault.{TextFault}
 use Rattle.tv_texts.proofs.Loading.{rose_later, still}
+use Rattle.tv_explain.proofs.Begins.{program_few}
 use Rattle.tv_explain.proofs.Causes.{initial_fault, taken_fault, unless_not_read}
 use Rattle.tv_explain.specs.declared.inputs.Drawn.{Drawn}
 use Rattle.tv_explain.specs.declared.inputs.Inputs.{Inputs}
@@ -76,3 +78,25 @@ returns-clause-begins g c =
     let name = (analyzed_of c.args.of.now).program in
     one_more _ (λ held. program_begins held name) (λ held. program_begins held name + 1) _ _ _ (λ held. refl)
     (rw c.deref.ensures at c.in_ok-drawn.ensures.begins) c.in_ok-initial.ensures.begins
+
+pub returns-in_err-drawn-clause-most : goal.returns-in_err-drawn-clause-most
+returns-in_err-drawn-clause-most g c =
+    let told = g.F.Files.holds c.args.files.now in
+    let old = g.F.Files.begins c.args.files.now in
+    let new = g.F.Files.begins c.load_taken.new.files in
+    let fault : Result Drawn TextFault = Err c.in_err-drawn.field-0.0 in
+    program_few fault told (analyzed_of c.args.of.now).program old new
+    (subst (λ n. BeginsUpTo fault told (λ held. program_begins held n) old new) c.deref.ensures
+    c.in_err-drawn.ensures.begins)
+
+pub returns-in_err-initial-clause-most : goal.returns-in_err-initial-clause-most
+returns-in_err-initial-clause-most g c =
+    let name = (analyzed_of c.args.of.now).program in
+    begins_at_most _ (λ held. program_begins held name + 1) _ _
+    (one_more _ (λ held. program_begins held name) (λ held. program_begins held name + 1) _ _ _ (λ held. refl)
+    (rw c.deref.ensures at c.in_ok-drawn.ensures.begins) c.in_err-initial.ensures.begins)
+
+pub returns-clause-most : goal.returns-clause-most
+returns-clause-most g c =
+    begins_at_most _ (λ held. program_begins held (analyzed_of c.args.of.now).program + 1) _ _
+    (returns-clause-begins g c)

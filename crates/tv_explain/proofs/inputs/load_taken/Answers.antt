@@ -1,5 +1,5 @@
-use Rattle.std.proofs.lemmas.Result.{IfOk-weaker}
-use Rattle.tv_lemmas.proofs.Options.{OnOk-any}
+use Rattle.std.proofs.lemmas.Result.{IfOk-weaker, err_from_is_err_and}
+use Rattle.tv_texts.proofs.Begins.{begins_anyway}
 use Rattle.tv_texts.proofs.Loading.{holds_anyway}
 use Rattle.tv_explain.proofs.Causes.{memory_fault}
 use Rattle.tv_explain.proofs.Trees.{taken_file}
@@ -17,4 +17,9 @@ pub returns-clause-steady : goal.returns-clause-steady
 returns-clause-steady g c = λ s. holds_anyway c.taken.result _ (c.in_ok-read.ensures.steady s)
 
 pub returns-clause-begins : goal.returns-clause-begins
-returns-clause-begins g c = OnOk-any c.taken.result _ c.in_ok-read.ensures.begins
+returns-clause-begins g c = begins_anyway c.taken.result _ _ _ _ c.in_ok-read.ensures.begins
+
+pub returns-in_err-read-clause-begins : goal.returns-in_err-read-clause-begins
+returns-in_err-read-clause-begins g c =
+    let p = err_from_is_err_and c.from_residual.result c.from_residual.ensures.1 in
+    rw (p.1, p.2) c.in_err-read.ensures.begins

@@ -2,8 +2,8 @@ use Rattle.std.proofs.Common.{◌≡◌, ℕ}
 use Rattle.std.proofs.lemmas.Result.{err_from_is_err_and}
 use Rattle.std.specs.declared.alloc.Global.{Global}
 use Rattle.std.specs.declared.vec.Vec.{Vec}
-use Rattle.tv_explain_source.specs.declared.source.SourceText.{SourceText}
-use Rattle.tv_lex.proofs.Begins.{once_begun}
+use Rattle.tv_texts.specs.declared.source.SourceText.{SourceText}
+use Rattle.tv_lex.proofs.Begins.{begins_at_most, once_begun}
 use Rattle.tv_explain.proofs.Causes.{source_fault, unless_not_read, writing_fault, written_text}
 use Rattle.tv_explain.proofs.work.compiled.Goals as goal
 
@@ -40,3 +40,14 @@ returns-clause-found g c = (
       (rw c.deref.ensures.value at c.in_ok-compiled_text.ensures.text) c.in_ok-compiled_text.ensures.means
       c.in_ok-compiled_text.ensures.size,
 )
+
+pub returns-in_err-read-clause-most : goal.returns-in_err-read-clause-most
+returns-in_err-read-clause-most g c =
+    begins_at_most _ (λ held. 1) _ _ (once_begun _ _ _ c.in_err-read.ensures.begins)
+
+pub returns-in_err-compiled_text-clause-most : goal.returns-in_err-compiled_text-clause-most
+returns-in_err-compiled_text-clause-most g c =
+    begins_at_most _ (λ held. 1) _ _ (once_begun _ _ _ c.in_ok-read.ensures.begins)
+
+pub returns-clause-most : goal.returns-clause-most
+returns-clause-most g c = begins_at_most _ (λ held. 1) _ _ (once_begun _ _ _ c.in_ok-read.ensures.begins)

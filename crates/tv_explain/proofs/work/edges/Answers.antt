@@ -1,7 +1,11 @@
-use Rattle.std.proofs.Common.{◌≡◌, ℕ, sym}
+use Rattle.std.proofs.Common.{◌≡◌, ℕ, Result, Err, sym}
 use Rattle.std.proofs.lemmas.Result.{err_from_is_err_and}
 use Rattle.std.specs.declared.alloc.Global.{Global}
 use Rattle.std.specs.declared.vec.Vec.{Vec}
+use Rattle.tv_lex.proofs.Begins.{begins_at_most}
+use Rattle.tv_texts.proofs.Begins.{begun_at_most}
+use Rattle.tv_texts.specs.Files.{program_begins}
+use Rattle.tv_texts.specs.declared.fault.TextFault.{TextFault}
 use Rattle.tv_explain.specs.declared.inputs.Drawn.{Drawn}
 use Rattle.tv_explain.proofs.Causes.{program_fault, unless_not_read}
 use Rattle.tv_explain_words.specs.Words.{ListsEdges}
@@ -26,3 +30,16 @@ returns-in_err-drawn-clause-steady g c =
 pub returns-clause-found : goal.returns-clause-found
 returns-clause-found g c =
     (c.in_ok-drawn.drawn, c.in_ok-drawn.ensures.means, rw (sym c.deref.ensures.value) c.in_ok-edges_text.ensures)
+
+pub returns-in_err-drawn-clause-most : goal.returns-in_err-drawn-clause-most
+returns-in_err-drawn-clause-most g c =
+    let fault : Result Drawn TextFault = Err c.in_err-drawn.field-0.0 in
+    begun_at_most fault _ (λ held. program_begins held c.args.program.now) _ _ c.in_err-drawn.ensures.begins
+
+pub returns-in_err-edges_text-clause-most : goal.returns-in_err-edges_text-clause-most
+returns-in_err-edges_text-clause-most g c =
+    begins_at_most _ (λ held. program_begins held c.args.program.now) _ _ c.in_ok-drawn.ensures.begins
+
+pub returns-clause-most : goal.returns-clause-most
+returns-clause-most g c =
+    begins_at_most _ (λ held. program_begins held c.args.program.now) _ _ c.in_ok-drawn.ensures.begins

@@ -22,3 +22,9 @@ returns-clause-found g c =
 
 pub returns-clause-begins : goal.returns-clause-begins
 returns-clause-begins g c = OnOk-any c.losses_answer.result _ c.in_ok-inputs.ensures.begins
+
+pub returns-in_err-inputs-clause-most : goal.returns-in_err-inputs-clause-most
+returns-in_err-inputs-clause-most g c = c.in_err-inputs.ensures.most
+
+pub returns-clause-most : goal.returns-clause-most
+returns-clause-most g c = c.in_ok-inputs.ensures.most

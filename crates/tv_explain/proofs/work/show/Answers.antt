@@ -1,12 +1,14 @@
-use Rattle.std.proofs.Common.{◌≡◌, ℕ, ◌+◌, inl, refl}
+use Rattle.std.proofs.Common.{◌≡◌, ℕ, ◌+◌, Result, Err, inl, refl}
 use Rattle.std.proofs.lemmas.Result.{err_from_is_err_and}
 use Rattle.std.specs.declared.alloc.Global.{Global}
 use Rattle.std.specs.declared.vec.Vec.{Vec}
 use Rattle.tv_listing.specs.declared.analysis.Analysis.{Analysis}
 use Rattle.tv_model.specs.declared.program.Program.{Program}
-use Rattle.tv_lex.proofs.Begins.{one_more}
+use Rattle.tv_lex.proofs.Begins.{begins_at_most, one_more}
 use Rattle.tv_texts.specs.Files.{program_begins}
+use Rattle.tv_texts.specs.declared.fault.TextFault.{TextFault}
 use Rattle.tv_texts.proofs.Loading.{rose_later, still}
+use Rattle.tv_explain.proofs.Begins.{program_few}
 use Rattle.tv_explain.proofs.Causes.{program_fault, report_fault, unless_not_read}
 use Rattle.tv_explain_words.specs.Words.{Shows}
 use Rattle.tv_explain.proofs.work.show.Goals as goal
@@ -70,3 +72,26 @@ returns-clause-begins g c =
     let name = c.args.program.now in
     one_more _ (λ held. program_begins held name) (λ held. program_begins held name + 1) _ _ _ (λ held. refl)
     c.in_ok-program.ensures.begins c.in_ok-report.ensures.begins
+
+pub returns-in_err-program-clause-most : goal.returns-in_err-program-clause-most
+returns-in_err-program-clause-most g c =
+    let fault : Result Program TextFault = Err c.in_err-program.field-0.0 in
+    program_few fault _ c.args.program.now _ _ c.in_err-program.ensures.begins
+
+pub returns-in_err-report-clause-most : goal.returns-in_err-report-clause-most
+returns-in_err-report-clause-most g c =
+    let name = c.args.program.now in
+    begins_at_most _ (λ held. program_begins held name + 1) _ _
+    (one_more _ (λ held. program_begins held name) (λ held. program_begins held name + 1) _ _ _ (λ held. refl)
+    c.in_ok-program.ensures.begins c.in_err-report.ensures.begins)
+
+pub returns-in_err-shown_text-clause-most : goal.returns-in_err-shown_text-clause-most
+returns-in_err-shown_text-clause-most g c =
+    let name = c.args.program.now in
+    begins_at_most _ (λ held. program_begins held name + 1) _ _
+    (one_more _ (λ held. program_begins held name) (λ held. program_begins held name + 1) _ _ _ (λ held. refl)
+    c.in_ok-program.ensures.begins c.in_ok-report.ensures.begins)
+
+pub returns-clause-most : goal.returns-clause-most
+returns-clause-most g c =
+    begins_at_most _ (λ held. program_begins held c.args.program.now + 1) _ _ (returns-clause-begins g c)

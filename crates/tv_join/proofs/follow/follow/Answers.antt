@@ -6,7 +6,7 @@ use Rattle.std.proofs.lemmas.List.Elements.{All-contains, All-more, All-weaker, 
 use Rattle.tv_work.proofs.Advancing.{leaving-at}
 use Rattle.tv_join.specs.State.{IsAmongFound}
 use Rattle.tv_join.specs.Stepped.{IsFollowedAlong}
-use Rattle.tv_join.specs.Task.{task_of}
+use Rattle.tv_work.specs.Task.{task_of}
 use Rattle.tv_join.proofs.Following.{AreAside, along-kept, aside-more, aside-none, changes-from, gathers-none}
 use Rattle.tv_join.proofs.Following.{gathers-on}
 use Rattle.tv_join.proofs.Nodes.{member-within}
@@ -17,7 +17,7 @@ loop-edge-init c = record {
   gathers = gathers-none (task_of c.args.x.now) c.args.joins.now.nodes c.args.found.now.items;
   aside = aside-none c.args.w.at c.args.values.now;
   followed = λ k d lt. absurd (omega (arith, lt));
-  scratch = cc;
+  same = cc;
 }
 
 pub follow_edge-requires-clause-edge : goal.follow_edge-requires-clause-edge
@@ -67,7 +67,7 @@ loop-edge-preserved c =
           (aside-more (take c.loop-edge.edge-index items) edge w.at c.args.values.now c.loop-edge.values values
           c.loop-edge.invariant.aside c.in_ok-follow_edge.ensures.others);
       followed = All-more Now items c.loop-edge.edge-index 0 c.loop-edge-test.true earlier here;
-      scratch = cc;
+      same = cc;
     }
 
 pub returns-clause-edges : goal.returns-clause-edges

@@ -2,7 +2,7 @@ use Rattle.std.proofs.Common.{ℕ, ◌≡◌, take}
 use Rattle.std.specs.Prelude.{All}
 use Rattle.tv_join.specs.State.{IsAmongFound}
 use Rattle.tv_join.specs.Stepped.{Gathers, IsFollowedAlong}
-use Rattle.tv_join.specs.Task.{task_of}
+use Rattle.tv_work.specs.Task.{task_of}
 use Rattle.tv_join.proofs.Following.{AreAside}
 use Rattle.tv_join.proofs.follow.follow.Given as goal
 
@@ -12,5 +12,5 @@ invariant-loop-edge l = record {
   aside : AreAside (take l.edge-index l.edge-items) l.w.at l.initial.values l.values;
   followed : All (λ (edge : ℕ). IsFollowedAlong (task_of l.x) l.joins.nodes (IsAmongFound l.found.items) l.values l.w edge)
       (take l.edge-index l.edge-items);
-  scratch : l.scratch ≡ l.initial.scratch;
+  same : l.stepper ≡ l.initial.stepper;
 }

@@ -1,7 +1,7 @@
 use Rattle.std.proofs.Common.{◌∙◌, Contains, List, ap, length, subst, sym, arith}
 use Rattle.tv_model.proofs.Lists.{Contains-here}
 use Rattle.tv_join.specs.Stepped.{GatheredForm}
-use Rattle.tv_join.specs.Task.{task_of}
+use Rattle.tv_work.specs.Task.{task_of}
 use Rattle.tv_join.specs.declared.joins.Found.{Found}
 use Rattle.tv_join.specs.declared.places.Place.{Place}
 use Rattle.tv_join.proofs.Following.{AreFollowedBut, but-all, but-next, but-none}
@@ -12,7 +12,7 @@ loop-w-init c = record {
   followed = subst (λ (fs : List Found). AreFollowedBut (task_of c.args.x.now) c.args.joins.now.nodes c.args.places
       c.args.places (record { found = fs; values = c.args.values.now }) c.args.values.now) (sym c.new-found.ensures.items)
       (but-all (task_of c.args.x.now) c.args.joins.now.nodes c.args.places c.args.values.now);
-  scratch = cc;
+  same = cc;
 }
 
 pub follow-requires-clause-place : goal.follow-requires-clause-place
@@ -37,7 +37,7 @@ loop-w-preserved c =
           c.in-Some.ensures.some c.loop-w.invariant.followed)
           c.in_ok-follow.ensures.gathers (c.in_ok-follow.ensures.edges ∙ sym c.requires.edges)
           c.in_ok-follow.ensures.others c.in_ok-follow.ensures.followed;
-      scratch = cc;
+      same = cc;
     }
 
 pub loop-w-smaller : goal.loop-w-smaller

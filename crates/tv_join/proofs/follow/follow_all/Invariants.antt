@@ -1,5 +1,5 @@
 use Rattle.std.proofs.Common.{◌≡◌, length}
-use Rattle.tv_join.specs.Task.{task_of}
+use Rattle.tv_work.specs.Task.{task_of}
 use Rattle.tv_join.proofs.Following.{AreFollowedBut}
 use Rattle.tv_join.proofs.follow.follow_all.Given as goal
 
@@ -7,7 +7,7 @@ abbrev pub invariant-loop-w : goal.invariant-loop-w
 invariant-loop-w l = record {
   followed : AreFollowedBut (task_of l.x) l.joins.nodes l.fn.places l.left
       (record { found = l.found.items; values = l.values }) l.initial.values;
-  scratch : l.scratch ≡ l.initial.scratch;
+  same : l.stepper ≡ l.initial.stepper;
 }
 
 abbrev pub decreases-loop-w : goal.decreases-loop-w

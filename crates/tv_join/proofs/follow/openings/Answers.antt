@@ -2,14 +2,14 @@ use Rattle.std.proofs.Common.{◌≡◌, ◌∙◌, ◌+◌, ◌++◌, ◌∷◌
 use Rattle.std.proofs.lemmas.List.{take_all, take_more}
 use Rattle.tv_structure_form.specs.StructureForm.{StructureForm}
 use Rattle.tv_join.specs.Stepped.{AreOpenings}
-use Rattle.tv_join.specs.Task.{task_of}
+use Rattle.tv_work.specs.Task.{task_of}
 use Rattle.tv_join.proofs.Following.{openings-none, openings-more}
 use Rattle.tv_join.proofs.follow.openings.Goals as goal
 
 pub loop-s-init : goal.loop-s-init
 loop-s-init c = record {
   found = subst (AreOpenings (task_of c.args.x.now) []) (sym c.new-found.ensures.items) (openings-none (task_of c.args.x.now));
-  scratch = cc;
+  same = cc;
 }
 
 pub loop-s-preserved : goal.loop-s-preserved
@@ -24,7 +24,7 @@ loop-s-preserved c =
       found = subst (λ ys. AreOpenings t ys c.open.new.found.items) (sym more)
           (openings-more t (take c.loop-s.s-index xs) s c.loop-s.found.items c.open.new.found.items c.loop-s.invariant.found
           c.in_ok-open.ensures.openable c.in_ok-open.ensures.found);
-      scratch = cc;
+      same = cc;
     }
 
 pub returns-clause-found : goal.returns-clause-found

@@ -2,24 +2,27 @@ use Rattle.std.proofs.Common.{ap}
 use Rattle.std.proofs.lemmas.Result.{err_from_is_err_and}
 use Rattle.tv_join.specs.State.{JoinsForm}
 use Rattle.tv_join.specs.Stepped.{GatheredForm}
-use Rattle.tv_join.specs.Task.{task_of}
+use Rattle.tv_work.specs.Task.{task_of}
 use Rattle.tv_join.proofs.Rounding.{follow-cause, on-cause, placed-found, round-on, taken-cause}
 use Rattle.tv_join.proofs.Rounding.{taken-followed, taken-in, taken-kept, taken-nodes}
 use Rattle.tv_join.proofs.rounds.round.Goals as goal
 
 pub follow_all-requires-clause-kept : goal.follow_all-requires-clause-kept
 follow_all-requires-clause-kept c =
-    taken-kept (task_of c.args.x.now) c.args.joins.now c.take_changed-changed.new.self c.take_changed-changed.result
+    taken-kept (task_of c.args.x.now.task) c.args.joins.now c.take_changed-changed.new.self
+    c.take_changed-changed.result
     c.take_changed-changed.ensures.taken c.take_changed-changed.ensures.left c.requires.at.at.kept
 
 pub follow_all-requires-clause-places : goal.follow_all-requires-clause-places
 follow_all-requires-clause-places c =
-    taken-in (task_of c.args.x.now) c.args.joins.now c.take_changed-changed.new.self c.take_changed-changed.result
+    taken-in (task_of c.args.x.now.task) c.args.joins.now c.take_changed-changed.new.self
+    c.take_changed-changed.result
     c.take_changed-changed.ensures.taken c.take_changed-changed.ensures.left c.requires.at.at.kept
 
 pub meet_all-requires-clause-kept : goal.meet_all-requires-clause-kept
 meet_all-requires-clause-kept c =
-    taken-kept (task_of c.args.x.now) c.args.joins.now c.take_changed-changed.new.self c.take_changed-changed.result
+    taken-kept (task_of c.args.x.now.task) c.args.joins.now c.take_changed-changed.new.self
+    c.take_changed-changed.result
     c.take_changed-changed.ensures.taken c.take_changed-changed.ensures.left c.requires.at.at.kept
 
 pub meet_all-requires-clause-none : goal.meet_all-requires-clause-none
@@ -27,11 +30,12 @@ meet_all-requires-clause-none c = ap (λ (j : JoinsForm). j.changed) c.take_chan
 
 pub meet_all-requires-clause-placed : goal.meet_all-requires-clause-placed
 meet_all-requires-clause-placed c =
-    placed-found (task_of c.args.x.now) c.in_ok-found.found.items (λ x has. (c.in_ok-found.ensures.followed.only x has).1)
+    placed-found (task_of c.args.x.now.task) c.in_ok-found.found.items
+    (λ x has. (c.in_ok-found.ensures.followed.only x has).1)
 
 pub returns-in_err-found-clause-cause : goal.returns-in_err-found-clause-cause
 returns-in_err-found-clause-cause c =
-    let t = task_of c.args.x.now
+    let t = task_of c.args.x.now.task
     in let p = err_from_is_err_and c.from_residual.result c.from_residual.ensures.1
     in rw (p.1, p.2)
     (follow-cause t c.requires.at.round c.args.joins.now c.requires.at.at c.in_err-found.field-0.0
@@ -41,7 +45,7 @@ returns-in_err-found-clause-cause c =
 
 pub returns-in_err-meet_all-clause-cause : goal.returns-in_err-meet_all-clause-cause
 returns-in_err-meet_all-clause-cause c =
-    let t = task_of c.args.x.now
+    let t = task_of c.args.x.now.task
     in let old = c.args.joins.now
     in let middle = c.take_changed-changed.new.self
     in let places = c.take_changed-changed.result
@@ -57,7 +61,7 @@ returns-in_err-meet_all-clause-cause c =
 
 pub returns-clause-on : goal.returns-clause-on
 returns-clause-on c =
-    let t = task_of c.args.x.now
+    let t = task_of c.args.x.now.task
     in let old = c.args.joins.now
     in let middle = c.take_changed-changed.new.self
     in let places = c.take_changed-changed.result

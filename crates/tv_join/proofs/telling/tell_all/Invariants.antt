@@ -1,4 +1,4 @@
-use Rattle.tv_join.specs.Task.{task_of}
+use Rattle.tv_work.specs.Task.{task_of}
 use Rattle.tv_join.proofs.Greatest.{AreToldUpTo}
 use Rattle.tv_join.proofs.telling.tell_all.Given as goal
 

@@ -1,4 +1,4 @@
-use Rattle.tv_join.specs.Task.{task_of}
+use Rattle.tv_work.specs.Task.{task_of}
 use Rattle.tv_join.proofs.Greatest.{AreToldTo}
 use Rattle.tv_join.proofs.telling.tell_edge.Given as goal
 

@@ -23,5 +23,5 @@ loop-structure-init c = record {
     kept = c.requires.so_far.kept;
     stable = c.requires.so_far.stable;
   };
-  scratch = refl;
+  same = refl;
 }

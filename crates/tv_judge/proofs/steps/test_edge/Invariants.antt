@@ -6,5 +6,5 @@ use Rattle.tv_judge.proofs.steps.test_edge.Given as goal
 abbrev pub invariant-loop-structure : goal.invariant-loop-structure
 invariant-loop-structure l = record {
   done : IsTestedTo (case_in l.x) l.x.asked (1 ∷ l.edge ∷ l.structure ∷ []) l.found;
-  scratch : l.scratch ≡ l.fn.scratch;
+  same : l.stepper ≡ l.fn.stepper;
 }

@@ -1,7 +1,8 @@
 use Rattle.std.proofs.Common.{subst, refl}
 use Rattle.std.specs.Prelude.{IfSome, IfNone}
+use Rattle.tv_model.specs.Program.{program_of}
 use Rattle.tv_step_laws.specs.Transfer.{IsOpening, HasNoOpening}
-use Rattle.tv_judge.specs.Setting.{case_in, form_in}
+use Rattle.tv_judge.specs.Setting.{case_in}
 use Rattle.tv_judge.proofs.Passing.{none-passes}
 use Rattle.tv_judge.proofs.Reports.{index-at, start-within}
 use Rattle.tv_judge.proofs.steps.test_opening.Goals as goal
@@ -17,7 +18,7 @@ test_item-requires-clause-there c = record {
   is_initial = index-at c.args.x.now.initial.now c.as_slice.result.now c.args.number
       c.index-as_slice-number.result c.as_slice.ensures
       c.index-as_slice-number.is c.requires.number;
-  opening = subst (λ o. IfSome o (IsOpening (form_in c.args.x.now) c.index-as_slice-number.result))
+  opening = subst (λ o. IfSome o (IsOpening (program_of c.args.x.now.program.now) c.index-as_slice-number.result))
       c.in-Some.is c.in_ok-opening_of.ensures.some;
   targets_are = refl;
 }
@@ -30,7 +31,7 @@ returns-in-None-clause-next c = record {
       (index-at c.args.x.now.initial.now c.as_slice.result.now c.args.number c.index-as_slice-number.result
       c.as_slice.ensures
       c.index-as_slice-number.is c.requires.number)
-      (subst (λ o. IfNone o (HasNoOpening (form_in c.args.x.now) c.index-as_slice-number.result)) c.in-None.is
+      (subst (λ o. IfNone o (HasNoOpening (program_of c.args.x.now.program.now) c.index-as_slice-number.result)) c.in-None.is
       c.in_ok-opening_of.ensures.none)
       c.requires.so_far.done;
   kept = c.requires.so_far.kept;

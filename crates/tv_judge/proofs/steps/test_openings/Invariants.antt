@@ -6,5 +6,5 @@ use Rattle.tv_judge.proofs.steps.test_openings.Given as goal
 abbrev pub invariant-loop-number : goal.invariant-loop-number
 invariant-loop-number l = record {
   done : IsTestedTo (case_in l.x) l.x.asked (0 ∷ l.number ∷ []) l.found;
-  scratch : l.scratch ≡ l.fn.scratch;
+  same : l.stepper ≡ l.fn.stepper;
 }

@@ -6,5 +6,5 @@ use Rattle.tv_judge.proofs.steps.test_report.Given as goal
 abbrev pub invariant-loop-edge : goal.invariant-loop-edge
 invariant-loop-edge l = record {
   done : IsTestedTo (case_in l.x) l.x.asked (1 ∷ l.edge ∷ []) l.found;
-  scratch : l.scratch ≡ l.fn.scratch;
+  same : l.stepper ≡ l.fn.stepper;
 }

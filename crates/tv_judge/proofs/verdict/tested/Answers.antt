@@ -9,7 +9,6 @@ test_report-requires-clause-ready c = record {
   initial = c.requires.initial;
   few = c.requires.few;
   listing = c.requires.listing;
-  engine = c.in_ok-engine.ensures;
   lines = subst (IsLineIndex c.in_ok-lines.lines.entries) c.as_slice.ensures c.in_ok-lines.ensures;
   said = subst (IsMessageIndex c.in_ok-said.said.keys) c.as_slice-2.ensures c.in_ok-said.ensures;
   targets = c.as_slice-3.ensures.value ∙ c.in_ok-targets.ensures;

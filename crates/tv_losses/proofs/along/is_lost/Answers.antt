@@ -1,4 +1,4 @@
-use Rattle.std.proofs.Common.{◌↔◌, subst, IsTrue}
+use Rattle.std.proofs.Common.{◌↔◌, ◌∙◌, subst, IsTrue}
 use Rattle.std.proofs.lemmas.Option.{slice_get_within}
 use Rattle.std.proofs.lemmas.Result.{err_from_is_err_and}
 use Rattle.tv_lemmas.proofs.Bools.{isnt_so}
@@ -6,27 +6,25 @@ use Rattle.tv_model.specs.Program.{action_of, program_of}
 use Rattle.tv_step_laws.specs.Budgets.{IsStepCause}
 use Rattle.tv_step_laws.specs.Transfer.{AreResults}
 use Rattle.tv_step.specs.AtHand.{IsFocusFault}
-use Rattle.tv_losses_enabled.specs.Enabled.{IsEnabledAtHand}
+use Rattle.tv_step.specs.EngineForm.{EngineForm}
+use Rattle.tv_losses.specs.Enabled.{IsEnabledAtHand}
 use Rattle.tv_work.proofs.Causes.{step-cause}
 use Rattle.tv_losses.specs.Losses.{IsLost}
-use Rattle.tv_losses.specs.Tasks.{form_in, mode_in, reached_in}
+use Rattle.tv_losses.specs.Tasks.{reached_in}
 use Rattle.tv_losses.proofs.Losing.{are-none, are-some, at-source, focus-step, listed-over}
 use Rattle.tv_losses.proofs.Losing.{lost-enabled, not-lost, same-answer}
 use Rattle.tv_losses.proofs.along.is_lost.Goals as goal
 
 pub step-requires-clause-edge : goal.step-requires-clause-edge
 step-requires-clause-edge c =
-    rw c.requires.ready.engine
+    rw c.requires.ready.made
     (slice_get_within c.args.x.now.program.now.edges c.args.number c.args.edge c.requires.edge)
 
 pub step-requires-clause-over : goal.step-requires-clause-over
 step-requires-clause-over c =
-    rw c.requires.ready.engine
-    (listed-over c.args.x.now c.args.scratch.now c.requires.ready c.args.number c.args.edge c.requires.edge
+    rw c.requires.ready.made
+    (listed-over c.args.x.now c.args.stepper.now c.requires.ready c.args.number c.args.edge c.requires.edge
     c.args.s.now c.requires.listed)
-
-pub step-requires-clause-scratch : goal.step-requires-clause-scratch
-step-requires-clause-scratch c = rw c.requires.ready.engine c.requires.ready.room
 
 pub returns-in_err-out-clause-cause : goal.returns-in_err-out-clause-cause
 returns-in_err-out-clause-cause c =
@@ -35,11 +33,11 @@ returns-in_err-out-clause-cause c =
     in let fault = c.in_err-out.field-0.0
     in let p = err_from_is_err_and c.from_residual.result c.from_residual.ensures.1
     in rw (p.1, p.2)
-    (λ max. step-cause (form_in x) max c.args.number (reached_in x)
+    (λ max. step-cause (program_of x.program.now) max c.args.number (reached_in x)
     (record { node = c.args.edge.from; structure = s })
-    (at-source x c.args.scratch.now c.requires.ready c.args.number c.args.edge c.requires.edge s c.requires.listed)
+    (at-source x c.args.stepper.now c.requires.ready c.args.number c.args.edge c.requires.edge s c.requires.listed)
     fault
-    (subst (λ program. IsStepCause (program_of program) c.args.number s fault) c.requires.ready.engine
+    (subst (λ (e : EngineForm). IsStepCause (program_of e.program) c.args.number s fault) c.requires.ready.made
     c.in_err-out.ensures.step.cause))
 
 pub returns-then-not-is_empty-clause-lost : goal.returns-then-not-is_empty-clause-lost
@@ -47,9 +45,9 @@ returns-then-not-is_empty-clause-lost c =
     let x = c.args.x.now
     in let s = c.args.s.now
     in let rs = c.in_ok-out.out.results
-    in isnt_so (IsLost (form_in x) (mode_in x) c.args.number s)
-    (not-lost (form_in x) c.requires.ready.valid (mode_in x) c.args.number s rs
-    (subst (λ program. AreResults (program_of program) (mode_in x) c.args.number s rs) c.requires.ready.engine
+    in isnt_so (IsLost (program_of x.program.now) x.mode c.args.number s)
+    (not-lost (program_of x.program.now) c.requires.ready.valid x.mode c.args.number s rs
+    (subst (λ (e : EngineForm). AreResults (program_of e.program) e.mode c.args.number s rs) c.requires.ready.made
     c.in_ok-out.ensures.step.results)
     (are-some rs c.as_slice.result.now c.is_empty.result c.as_slice.ensures c.is_empty.ensures
     c.if-not-is_empty.true))
@@ -59,25 +57,21 @@ action_at-action-requires-clause-number c =
     slice_get_within c.args.x.now.program.now.edges c.args.number c.args.edge c.requires.edge
 
 pub is_enabled_at_hand-requires-clause-valid : goal.is_enabled_at_hand-requires-clause-valid
-is_enabled_at_hand-requires-clause-valid c = rw c.requires.ready.engine c.requires.ready.valid
+is_enabled_at_hand-requires-clause-valid c = rw (c.in_ok-out.ensures.same, c.requires.ready.made) c.requires.ready.valid
 
 pub is_enabled_at_hand-requires-clause-edge : goal.is_enabled_at_hand-requires-clause-edge
 is_enabled_at_hand-requires-clause-edge c =
-    rw c.requires.ready.engine
+    rw (c.in_ok-out.ensures.same, c.requires.ready.made)
     (slice_get_within c.args.x.now.program.now.edges c.args.number c.args.edge c.requires.edge)
 
 pub is_enabled_at_hand-requires-clause-action : goal.is_enabled_at_hand-requires-clause-action
-is_enabled_at_hand-requires-clause-action c = rw c.requires.ready.engine c.action_at-action.ensures
+is_enabled_at_hand-requires-clause-action c = rw (c.in_ok-out.ensures.same, c.requires.ready.made) c.action_at-action.ensures
 
 pub is_enabled_at_hand-requires-clause-over : goal.is_enabled_at_hand-requires-clause-over
 is_enabled_at_hand-requires-clause-over c =
-    rw c.requires.ready.engine
-    (listed-over c.args.x.now c.args.scratch.now c.requires.ready c.args.number c.args.edge c.requires.edge
+    rw (c.in_ok-out.ensures.same, c.requires.ready.made)
+    (listed-over c.args.x.now c.args.stepper.now c.requires.ready c.args.number c.args.edge c.requires.edge
     c.args.s.now c.requires.listed)
-
-pub is_enabled_at_hand-requires-clause-scratch : goal.is_enabled_at_hand-requires-clause-scratch
-is_enabled_at_hand-requires-clause-scratch c =
-    rw (c.requires.ready.engine, c.in_ok-out.ensures.scratch) c.requires.ready.room
 
 pub returns-in_err-is_enabled_at_hand-clause-cause : goal.returns-in_err-is_enabled_at_hand-clause-cause
 returns-in_err-is_enabled_at_hand-clause-cause c =
@@ -88,12 +82,13 @@ returns-in_err-is_enabled_at_hand-clause-cause c =
     in let p = err_from_is_err_and c.from_residual-in_err-is_enabled_at_hand.result
     c.from_residual-in_err-is_enabled_at_hand.ensures.1
     in rw (p.1, p.2)
-    (λ max. step-cause (form_in x) max c.args.number (reached_in x)
+    (λ max. step-cause (program_of x.program.now) max c.args.number (reached_in x)
     (record { node = c.args.edge.from; structure = s })
-    (at-source x c.args.scratch.now c.requires.ready c.args.number c.args.edge c.requires.edge s c.requires.listed)
+    (at-source x c.args.stepper.now c.requires.ready c.args.number c.args.edge c.requires.edge s c.requires.listed)
     fault
-    (focus-step (form_in x) c.args.number action s fault c.action_at-action.ensures
-    (subst (λ program. IsFocusFault (program_of program) action s fault) c.requires.ready.engine
+    (focus-step (program_of x.program.now) c.args.number action s fault c.action_at-action.ensures
+    (subst (λ (e : EngineForm). IsFocusFault (program_of e.program) action s fault)
+    (c.in_ok-out.ensures.same ∙ c.requires.ready.made)
     c.in_err-is_enabled_at_hand.ensures.cause)))
 
 pub returns-clause-lost : goal.returns-clause-lost
@@ -103,11 +98,12 @@ returns-clause-lost c =
     in let rs = c.in_ok-out.out.results
     in let action = action_of c.action_at-action.result.now
     in let enabled = c.in_ok-is_enabled_at_hand.field-0
-    in same-answer (IsEnabledAtHand (form_in x) action s) (IsLost (form_in x) (mode_in x) c.args.number s) enabled
-    (subst (λ program. IsTrue enabled ↔ IsEnabledAtHand (program_of program) action s) c.requires.ready.engine
+    in same-answer (IsEnabledAtHand (program_of x.program.now) action s) (IsLost (program_of x.program.now) x.mode c.args.number s) enabled
+    (subst (λ (e : EngineForm). IsTrue enabled ↔ IsEnabledAtHand (program_of e.program) action s)
+    (c.in_ok-out.ensures.same ∙ c.requires.ready.made)
     c.in_ok-is_enabled_at_hand.ensures.value)
-    (lost-enabled (form_in x) (mode_in x) c.args.number s action rs
-    (subst (λ program. AreResults (program_of program) (mode_in x) c.args.number s rs) c.requires.ready.engine
+    (lost-enabled (program_of x.program.now) x.mode c.args.number s action rs
+    (subst (λ (e : EngineForm). AreResults (program_of e.program) e.mode c.args.number s rs) c.requires.ready.made
     c.in_ok-out.ensures.step.results)
     (are-none rs c.as_slice.result.now c.is_empty.result c.as_slice.ensures c.is_empty.ensures
     c.if-not-is_empty.false)

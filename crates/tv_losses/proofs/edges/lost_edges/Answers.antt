@@ -2,29 +2,30 @@ use Rattle.std.proofs.Common.{ℕ, ◌≡◌, List, [], Some, length, get_or, ap
 use Rattle.std.specs.Prelude.{IfSome, IfNone}
 use Rattle.tv_listing.specs.ListingForm.{at_node}
 use Rattle.std.proofs.lemmas.Option.{slice_get-get_or, slice_get_within}
+use Rattle.tv_model.specs.Program.{program_of}
 use Rattle.tv_model.specs.declared.program.Edge.{Edge}
-use Rattle.tv_losses.specs.Tasks.{Tells, form_in, mode_in}
+use Rattle.tv_losses.specs.Tasks.{Tells}
 use Rattle.tv_losses.proofs.Losing.{ready-again}
 use Rattle.tv_losses.proofs.Telling.{told-all, told-next, none-told}
 use Rattle.tv_losses.proofs.edges.lost_edges.Goals as goal
 
 pub loop-number-init : goal.loop-number-init
 loop-number-init c = record {
-  told = none-told (form_in c.args.x.now) (mode_in c.args.x.now) c.args.x.now.listing.now c.new-losses.result
+  told = none-told (program_of c.args.x.now.program.now) c.args.x.now.mode c.args.x.now.listing.now c.new-losses.result
       c.new-losses.ensures;
-  scratch = cc;
+  same = cc;
 }
 
 pub lost_along-requires-clause-ready : goal.lost_along-requires-clause-ready
 lost_along-requires-clause-ready c =
-    ready-again c.args.x.now c.args.scratch.now c.loop-number.scratch c.loop-number.invariant.scratch
+    ready-again c.args.x.now c.args.stepper.now c.loop-number.stepper c.loop-number.invariant.same
     c.requires.ready
 
 pub loop-number-preserved : goal.loop-number-preserved
 loop-number-preserved c =
     let x = c.args.x.now
-    in let p = form_in x
-    in let mode = mode_in x
+    in let p = program_of x.program.now
+    in let mode = x.mode
     in let listing = c.args.x.now.listing.now
     in let n = c.loop-number.number
     in let items = c.as_slice-edge-items.result.now
@@ -42,13 +43,13 @@ loop-number-preserved c =
           c.loss_of-loss.ensures.some))
           (subst (λ (ns : List ℕ). IfNone loss (ns ≡ [])) c.as_slice.ensures c.loss_of-loss.ensures.none)
           c.in_ok-push_some.ensures;
-      scratch = cc;
+      same = cc;
     }
 
 pub returns-clause-losses : goal.returns-clause-losses
 returns-clause-losses c =
     let x = c.args.x.now
-    in told-all (form_in x) (mode_in x) x.listing.now c.loop-number.number c.loop-number.losses
+    in told-all (program_of x.program.now) x.mode x.listing.now c.loop-number.number c.loop-number.losses
     c.loop-number.invariant.told
     (λ edge taken is. omega (
       arith,

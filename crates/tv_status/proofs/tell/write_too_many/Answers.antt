@@ -1,5 +1,5 @@
-use Rattle.std.proofs.Common.{◌≡◌}
-use Rattle.std.specs.Prelude.{decimal}
+use Rattle.std.proofs.Common.{rules, ◌≡◌, [], ◌∷◌, ◌++◌}
+use Rattle.std.specs.Prelude.{codes, decimal}
 use Rattle.tv_status.specs.Status.{too_many_text}
 use Rattle.tv_status.proofs.tell.write_too_many.Goals as goal
 
@@ -7,10 +7,16 @@ pub returns-clause-all : goal.returns-clause-all
 unfolding too_many_text
 returns-clause-all g c =
     let digits : c.as_bytes.result.now ≡ decimal c.args.max = cc in
-    rw (← digits) c.write_parts.ensures.all
+    let text : too_many_text c.args.teller c.args.max
+    ≡ c.name.result.now ++ (codes ": more than " ++ (c.as_bytes.result.now ++ (codes " structures" ++ 10 ∷ [])))
+    = search rules in
+    rw text c.write_parts.ensures.all
 
 pub returns-clause-front : goal.returns-clause-front
 unfolding too_many_text
 returns-clause-front g c =
     let digits : c.as_bytes.result.now ≡ decimal c.args.max = cc in
-    rw (← digits) c.write_parts.ensures.front
+    let text : too_many_text c.args.teller c.args.max
+    ≡ c.name.result.now ++ (codes ": more than " ++ (c.as_bytes.result.now ++ (codes " structures" ++ 10 ∷ [])))
+    = search rules in
+    rw text c.write_parts.ensures.front

@@ -56,20 +56,20 @@ returns-in_ok-push-in-Same-clause-within c =
     subst (λ f. IsWithinLimits c.args.s (form_of f) c.args.turn.now.atom) c.deref.ensures
     c.in_ok-s.ensures.within
 
-pub push_all-requires-clause-like : goal.push_all-requires-clause-like
-push_all-requires-clause-like c =
+pub coerce_all-requires-clause-like : goal.coerce_all-requires-clause-like
+coerce_all-requires-clause-like c =
     subst (IsShaped (form_in c.args.x.now))
     (sym (made-from c.args.s _ _ c.in-Choices.is c.in_ok-s.ensures.from))
     c.requires.shaped
 
-pub push_all-requires-clause-from : goal.push_all-requires-clause-from
-push_all-requires-clause-from c =
+pub coerce_all-requires-clause-from : goal.coerce_all-requires-clause-from
+coerce_all-requires-clause-from c =
     subst (IsStableIn (form_in c.args.x.now))
     (sym (made-from c.args.s _ _ c.in-Choices.is c.in_ok-s.ensures.from))
     c.requires.stable
 
-pub push_all-requires-clause-shaped : goal.push_all-requires-clause-shaped
-push_all-requires-clause-shaped c =
+pub coerce_all-requires-clause-shaped : goal.coerce_all-requires-clause-shaped
+coerce_all-requires-clause-shaped c =
     let p = form_in c.args.x.now
     in let choices = c.in-Choices.choices
     in let ls = choices_at c.args.s (focus_place c.args.turn.now)
@@ -78,15 +78,15 @@ push_all-requires-clause-shaped c =
     (made-stage c.args.s c.deref.result.now c.args.turn.now.formula.value c.args.turn.now.atom
     _ _ c.deref.ensures c.in-Choices.is c.in_ok-s.ensures.stage))
 
-pub push_all-requires-clause-within : goal.push_all-requires-clause-within
-push_all-requires-clause-within c = λ k d lt. tt
+pub coerce_all-requires-clause-within : goal.coerce_all-requires-clause-within
+coerce_all-requires-clause-within c = λ k d lt. tt
 
-pub push_all-requires-clause-count : goal.push_all-requires-clause-count
-push_all-requires-clause-count c =
+pub coerce_all-requires-clause-count : goal.coerce_all-requires-clause-count
+coerce_all-requires-clause-count c =
     ap length c.deref-in-Choices.ensures ∙ c.requires.waiting.count ∙ ap length (sym c.requires.ready.rules)
 
-pub push_all-requires-clause-rest : goal.push_all-requires-clause-rest
-push_all-requires-clause-rest c =
+pub coerce_all-requires-clause-rest : goal.coerce_all-requires-clause-rest
+coerce_all-requires-clause-rest c =
     let x = c.args.x.now
     in let p = form_in x
     in let s = c.args.s
@@ -104,19 +104,19 @@ push_all-requires-clause-rest c =
     (subst (λ rules. WaitsAt (length x.program.now.vocab.preds) place.formula rules c.args.turn.now.waiting.value)
     (sym c.requires.ready.rules) c.requires.waiting))
 
-pub returns-in_ok-push_all-in-Choices-clause-out : goal.returns-in_ok-push_all-in-Choices-clause-out
-returns-in_ok-push_all-in-Choices-clause-out c =
+pub returns-in_ok-coerce_all-in-Choices-clause-out : goal.returns-in_ok-coerce_all-in-Choices-clause-out
+returns-in_ok-coerce_all-in-Choices-clause-out c =
     let p = form_in c.args.x.now
     in let s = c.args.s
     in let choices = c.in-Choices.choices
     in let place = focus_place c.args.turn.now
-    in focus-adds p place s choices c.args.out.now c.push_all.new.out
+    in focus-adds p place s choices c.args.out.now c.coerce_all.new.out
     (tables-of p s c.requires.shaped choices (choices_at s place)
     (made-stage s c.deref.result.now c.args.turn.now.formula.value c.args.turn.now.atom _ _
-    c.deref.ensures c.in-Choices.is c.in_ok-s.ensures.stage)) c.in_ok-push_all-in-Choices.ensures.out
+    c.deref.ensures c.in-Choices.is c.in_ok-s.ensures.stage)) c.in_ok-coerce_all-in-Choices.ensures.out
 
-pub returns-in_ok-push_all-in-Choices-clause-within : goal.returns-in_ok-push_all-in-Choices-clause-within
-returns-in_ok-push_all-in-Choices-clause-within c =
+pub returns-in_ok-coerce_all-in-Choices-clause-within : goal.returns-in_ok-coerce_all-in-Choices-clause-within
+returns-in_ok-coerce_all-in-Choices-clause-within c =
     subst (λ f. IsWithinLimits c.args.s (form_of f) c.args.turn.now.atom) c.deref.ensures
     c.in_ok-s.ensures.within
 
@@ -169,5 +169,5 @@ returns-in_ok-walk_choices-in-Many-clause-within c =
     subst (λ f. IsWithinLimits c.args.s (form_of f) c.args.turn.now.atom) c.deref.ensures
     c.in_ok-s.ensures.within
 
-pub push_all-requires-clause-met : goal.push_all-requires-clause-met
-push_all-requires-clause-met c = λ k d lt n of. absurd (c.none.ensures n of)
+pub coerce_all-requires-clause-met : goal.coerce_all-requires-clause-met
+coerce_all-requires-clause-met c = λ k d lt n of. absurd (c.none.ensures n of)

@@ -9,14 +9,14 @@ use Rattle.tv_step.specs.Job.{case_program, case_action, case_mode, case_structu
 use Rattle.tv_step.specs.Steps.{Adds, PicksGive, PicksKeepLimits}
 use Rattle.tv_step.proofs.picks.+picked.Given as goal
 
-abbrev pub decreases-push_picked : goal.decreases-push_picked
-decreases-push_picked l = 2 * length l.left.now
+abbrev pub decreases-pick_left : goal.decreases-pick_left
+decreases-pick_left l = 2 * length l.left.now
 
-abbrev pub decreases-push_each : goal.decreases-push_each
-decreases-push_each l = 2 * length l.left.now + 1
+abbrev pub decreases-pick_each : goal.decreases-pick_each
+decreases-pick_each l = 2 * length l.left.now + 1
 
-abbrev pub invariant-push_each-loop-u : goal.invariant-push_each-loop-u
-invariant-push_each-loop-u l = record {
+abbrev pub invariant-pick_each-loop-u : goal.invariant-pick_each-loop-u
+invariant-pick_each-loop-u l = record {
   like : IsLike l.picks l.v.0 l.here;
   out : Adds (AreFrom
       (λ u own. PicksGive (case_program l.c) (case_mode l.c) (case_action l.c) (case_structure l.c)

@@ -11,8 +11,8 @@ use Rattle.tv_step.proofs.Adding.{adds-next, item-there}
 use Rattle.tv_step.proofs.Picking.{updates-cause}
 use Rattle.tv_step.proofs.step.given.Goals as goal
 
-pub push_steps-requires : goal.push_steps-requires
-push_steps-requires c = record {
+pub apply_action-requires : goal.apply_action-requires
+apply_action-requires c = record {
   case = record {
     ready = subst (IsReadyToStep c.args.x.now) (sym c.loop-from.invariant.scratch) c.requires.ready;
     job = c.requires.job;
@@ -32,24 +32,24 @@ pub loop-from-preserved : goal.loop-from-preserved
 loop-from-preserved c = record {
   out = adds-next
       (StepsIn (form_in c.args.x.now) c.args.x.now.mode (action_in c.args.job.now)) c.args.at_hand.now
-      c.loop-from.from-index c.from-item.result [] c.loop-from.out c.push_steps.new.out c.loop-from-test.true
+      c.loop-from.from-index c.from-item.result [] c.loop-from.out c.apply_action.new.out c.loop-from-test.true
       c.from-item.is
-      c.loop-from.invariant.out c.in_ok-push_steps.ensures.out;
+      c.loop-from.invariant.out c.in_ok-apply_action.ensures.out;
   within = all-next (KeepsUpdateLimits (action_in c.args.job.now)) c.args.at_hand.now c.loop-from.from-index
       c.from-item.result c.loop-from-test.true c.from-item.is c.loop-from.invariant.within
-      c.in_ok-push_steps.ensures.within;
+      c.in_ok-apply_action.ensures.within;
   scratch = cc;
 }
 
-pub returns-in_err-push_steps-clause-cause : goal.returns-in_err-push_steps-clause-cause
-returns-in_err-push_steps-clause-cause c =
+pub returns-in_err-apply_action-clause-cause : goal.returns-in_err-apply_action-clause-cause
+returns-in_err-apply_action-clause-cause c =
     IfErr-same (IsCauseOfUpdates (action_in c.args.job.now) c.args.at_hand.now) c.from_residual.result
-    c.in_err-push_steps.field-0.0 c.from_residual.ensures.1
+    c.in_err-apply_action.field-0.0 c.from_residual.ensures.1
     (updates-cause
-    (action_in c.args.job.now) c.args.at_hand.now c.from-item.result c.in_err-push_steps.field-0.0
+    (action_in c.args.job.now) c.args.at_hand.now c.from-item.result c.in_err-apply_action.field-0.0
     (item-there c.args.at_hand.now c.loop-from.from-index c.from-item.result c.loop-from-test.true
     c.from-item.is)
-    c.in_err-push_steps.ensures.cause)
+    c.in_err-apply_action.ensures.cause)
 
 pub returns-clause-within : goal.returns-clause-within
 returns-clause-within c =

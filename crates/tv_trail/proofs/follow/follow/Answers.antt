@@ -1,12 +1,13 @@
 use Rattle.std.proofs.Common.{ℕ, ◌<◌, arith, false, get_or, length, subst, sym, take, All, Contains, List}
 use Rattle.std.proofs.lemmas.List.{take_all}
 use Rattle.std.proofs.lemmas.List.Elements.{All-more, All-weaker, Contains-get_or}
+use Rattle.tv_model.specs.Program.{program_of}
 use Rattle.tv_work.specs.Leaving.{LeavesBy}
 use Rattle.tv_work.specs.Reach.{Point}
 use Rattle.tv_work.proofs.Advancing.{leaving-at}
 use Rattle.tv_trail_laws.specs.Met.{IsAt}
 use Rattle.tv_trail_laws.proofs.Places.{at-once}
-use Rattle.tv_trail.specs.Asked.{form_in, task_of}
+use Rattle.tv_work.specs.Task.{task_of}
 use Rattle.tv_trail.specs.Searched.{IsFrom, AnswersAlong}
 use Rattle.tv_trail.proofs.Following.{answers-on, passed-here}
 use Rattle.tv_trail.proofs.Kept.{at-on, meets-on}
@@ -14,7 +15,7 @@ use Rattle.tv_trail.proofs.follow.follow.Goals as goal
 
 pub follow_along-requires-clause-edge : goal.follow_along-requires-clause-edge
 follow_along-requires-clause-edge c = λ x at.
-    let lists = c.args.x.now.leaving.now
+    let lists = c.args.x.now.task.leaving.now
     in let items = c.as_slice-edge-items.result.now
     in let node = c.at-seen.result.node
     in let here : Point = record { node = node; structure = c.at-seen.result.structure.now }
@@ -25,7 +26,7 @@ follow_along-requires-clause-edge c = λ x at.
     = omega (arith, c.at-seen.ensures.node, c.requires.kept.nodes, c.requires.ready.leaving.count)
     in let same = leaving-at lists node c.index-x-node.result items within c.as_slice-edge-items.ensures
     in let edge = get_or items c.loop-edge.edge-index 0
-    in subst (λ (y : Point). LeavesBy (form_in c.args.x.now).edges y.node edge)
+    in subst (λ (y : Point). LeavesBy (program_of c.args.x.now.task.program.now).edges y.node edge)
     (at-once c.loop-edge.search.found c.args.place here x there at)
     ((c.requires.ready.leaving.each node edge).0
     (subst (λ (l : List ℕ). Contains l edge) same
@@ -38,7 +39,7 @@ returns-then-branch-clause-meets c =
 
 pub loop-edge-preserved : goal.loop-edge-preserved
 loop-edge-preserved c =
-    let t = task_of c.args.x.now
+    let t = task_of c.args.x.now.task
     in let items = c.as_slice-edge-items.result.now
     in let middle = c.loop-edge.search
     in let new = c.follow_along.new.search
@@ -56,13 +57,13 @@ loop-edge-preserved c =
       along = All-more Done items c.loop-edge.edge-index 0 c.loop-edge-test.true before
           (subst (λ b. AnswersAlong t c.args.x.now.goal c.args.place edge new.found b) c.if-branch.false
           c.in_ok-follow_along.ensures.answer);
-      scratch = cc;
+      same = cc;
     }
 
 pub returns-clause-answer : goal.returns-clause-answer
 returns-clause-answer c =
-    let t = task_of c.args.x.now
-    in let lists = c.args.x.now.leaving.now
+    let t = task_of c.args.x.now.task
+    in let lists = c.args.x.now.task.leaving.now
     in let items = c.as_slice-edge-items.result.now
     in let node = c.at-seen.result.node
     in let here : Point = record { node = node; structure = c.at-seen.result.structure.now }

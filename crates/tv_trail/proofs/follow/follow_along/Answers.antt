@@ -12,12 +12,11 @@ use Rattle.tv_step_laws.specs.Transfer.{AreMessageValues, AreResults}
 use Rattle.tv_step_laws.proofs.Shapes.{shaped-over}
 use Rattle.tv_work.specs.Analyzed.{IsAtSource}
 use Rattle.tv_work.specs.Reach.{Point}
-use Rattle.tv_work.specs.Task.{reached_in}
+use Rattle.tv_work.specs.Task.{reached_in, task_of}
 use Rattle.tv_work.proofs.Advancing.{target_at, target-is}
 use Rattle.tv_work.proofs.Causes.{meet-cause, step-cause}
 use Rattle.tv_trail_laws.specs.Met.{IsAt, IsMet}
 use Rattle.tv_trail.specs.Aims.{Raises}
-use Rattle.tv_trail.specs.Asked.{task_of}
 use Rattle.tv_trail.proofs.Aiming.{goal-along, raised-along, along-raised}
 use Rattle.tv_trail.proofs.Kept.{at-on, at-settled, met-reached}
 use Rattle.tv_trail.proofs.Stepping.{Arrives, arrived-along, arrived-from, arrived-reached, arrived-state}
@@ -27,30 +26,30 @@ pub stable_step-requires-clause-edge : goal.stable_step-requires-clause-edge
 stable_step-requires-clause-edge c =
     let x : Point = record { node = c.at-seen.result.node; structure = c.at-seen.result.structure.now }
     in let leaves = c.requires.edge x (c.at-seen.result.origin, c.at-seen.ensures.found)
-    in rw c.requires.ready.engine
-    (slice_get_within c.args.x.now.program.now.edges c.args.edge leaves.0 leaves.1)
+    in rw c.requires.ready.made
+    (slice_get_within c.args.x.now.task.program.now.edges c.args.edge leaves.0 leaves.1)
 
 pub stable_step-requires-clause-over : goal.stable_step-requires-clause-over
 stable_step-requires-clause-over c =
     let x : Point = record { node = c.at-seen.result.node; structure = c.at-seen.result.structure.now }
     in let at : IsAt c.args.search.now.found c.args.place x = (c.at-seen.result.origin, c.at-seen.ensures.found)
-    in rw c.requires.ready.engine
-    (shaped-over c.args.x.now.program.now x.structure
-    (at-settled (task_of c.args.x.now) c.args.search.now c.requires.kept c.args.place x at).shaped)
+    in rw c.requires.ready.made
+    (shaped-over c.args.x.now.task.program.now x.structure
+    (at-settled (task_of c.args.x.now.task) c.args.search.now c.requires.kept c.args.place x at).shaped)
 
 pub stable_step-requires-clause-stable : goal.stable_step-requires-clause-stable
 stable_step-requires-clause-stable c =
     let x : Point = record { node = c.at-seen.result.node; structure = c.at-seen.result.structure.now }
     in let at : IsAt c.args.search.now.found c.args.place x = (c.at-seen.result.origin, c.at-seen.ensures.found)
-    in rw c.requires.ready.engine
-    (at-settled (task_of c.args.x.now) c.args.search.now c.requires.kept c.args.place x at).stable
+    in rw c.requires.ready.made
+    (at-settled (task_of c.args.x.now.task) c.args.search.now c.requires.kept c.args.place x at).stable
 
 pub returns-in_err-out-clause-cause : goal.returns-in_err-out-clause-cause
 returns-in_err-out-clause-cause c =
     let x : Point = record { node = c.at-seen.result.node; structure = c.at-seen.result.structure.now }
     in let at : IsAt c.args.search.now.found c.args.place x = (c.at-seen.result.origin, c.at-seen.ensures.found)
     in let leaves = c.requires.edge x at
-    in let t = task_of c.args.x.now
+    in let t = task_of c.args.x.now.task
     in let source : IsAtSource t.program c.args.edge (reached_in t) x = record {
       taken = leaves.0;
       is_edge = leaves.1;
@@ -62,17 +61,17 @@ returns-in_err-out-clause-cause c =
     in rw (p.1, p.2)
     (step-cause t.program t.max c.args.edge (reached_in t) x source fault
     (subst (λ (e : EngineForm). IsStepCause (program_of e.program) c.args.edge x.structure fault)
-    c.requires.ready.engine c.in_err-out.ensures.step.cause))
+    c.requires.ready.made c.in_err-out.ensures.step.cause))
 
 pub returns-then-raises-clause-answer : goal.returns-then-raises-clause-answer
 returns-then-raises-clause-answer c =
     let x : Point = record { node = c.at-seen.result.node; structure = c.at-seen.result.structure.now }
     in let at : IsAt c.args.search.now.found c.args.place x = (c.at-seen.result.origin, c.at-seen.ensures.found)
-    in let t = task_of c.args.x.now
+    in let t = task_of c.args.x.now.task
     in let ks = c.in_ok-out.out.messages
     in let values : AreMessageValues t.program c.args.edge x.structure ks
     = subst (λ (e : EngineForm). AreMessageValues (program_of e.program) c.args.edge x.structure ks)
-    c.requires.ready.engine c.in_ok-out.ensures.step.values
+    c.requires.ready.made c.in_ok-out.ensures.step.values
     in let raises : Raises c.args.x.now.goal c.args.edge ks
     = subst (λ (vs : List K3). Raises c.args.x.now.goal c.args.edge vs) c.as_slice.ensures
     (c.raises.ensures.0 c.if-raises.true)
@@ -88,7 +87,7 @@ bounds-as_slice-edge c =
     let x : Point = record { node = c.at-seen.result.node; structure = c.at-seen.result.structure.now }
     in let leaves = c.requires.edge x (c.at-seen.result.origin, c.at-seen.ensures.found)
     in subst (λ (es : List Edge). c.args.edge < length es) (sym c.as_slice-2.ensures)
-    (slice_get_within c.args.x.now.program.now.edges c.args.edge leaves.0 leaves.1)
+    (slice_get_within c.args.x.now.task.program.now.edges c.args.edge leaves.0 leaves.1)
 
 pub returns-in_err-meet_all-clause-cause : goal.returns-in_err-meet_all-clause-cause
 returns-in_err-meet_all-clause-cause c =
@@ -96,8 +95,8 @@ returns-in_err-meet_all-clause-cause c =
     in let old = c.args.search.now
     in let at : IsAt old.found c.args.place x = (c.at-seen.result.origin, c.at-seen.ensures.found)
     in let leaves = c.requires.edge x at
-    in let t = task_of c.args.x.now
-    in let is = c.requires.ready.engine
+    in let t = task_of c.args.x.now.task
+    in let is = c.requires.ready.made
     in let rs = c.in_ok-out.out.results
     in let results : AreResults t.program t.mode c.args.edge x.structure rs
     = subst (λ (e : EngineForm). AreResults (program_of e.program) e.mode c.args.edge x.structure rs) is
@@ -119,8 +118,8 @@ returns-clause-kept c =
     in let old = c.args.search.now
     in let at : IsAt old.found c.args.place x = (c.at-seen.result.origin, c.at-seen.ensures.found)
     in let leaves = c.requires.edge x at
-    in let t = task_of c.args.x.now
-    in let is = c.requires.ready.engine
+    in let t = task_of c.args.x.now.task
+    in let is = c.requires.ready.made
     in let rs = c.in_ok-out.out.results
     in let results : AreResults t.program t.mode c.args.edge x.structure rs
     = subst (λ (e : EngineForm). AreResults (program_of e.program) e.mode c.args.edge x.structure rs) is
@@ -139,8 +138,8 @@ returns-clause-meets c =
     in let old = c.args.search.now
     in let at : IsAt old.found c.args.place x = (c.at-seen.result.origin, c.at-seen.ensures.found)
     in let leaves = c.requires.edge x at
-    in let t = task_of c.args.x.now
-    in let is = c.requires.ready.engine
+    in let t = task_of c.args.x.now.task
+    in let is = c.requires.ready.made
     in let rs = c.in_ok-out.out.results
     in let results : AreResults t.program t.mode c.args.edge x.structure rs
     = subst (λ (e : EngineForm). AreResults (program_of e.program) e.mode c.args.edge x.structure rs) is
@@ -159,8 +158,8 @@ returns-clause-answer c =
     in let new = c.meet_all.new.self
     in let at : IsAt old.found c.args.place x = (c.at-seen.result.origin, c.at-seen.ensures.found)
     in let leaves = c.requires.edge x at
-    in let t = task_of c.args.x.now
-    in let is = c.requires.ready.engine
+    in let t = task_of c.args.x.now.task
+    in let is = c.requires.ready.made
     in let rs = c.in_ok-out.out.results
     in let ks = c.in_ok-out.out.messages
     in let results : AreResults t.program t.mode c.args.edge x.structure rs

@@ -9,16 +9,15 @@ use Rattle.tv_step_laws.specs.Settled.{IsSettled}
 use Rattle.tv_step_laws.specs.Transfer.{IsOpening}
 use Rattle.tv_work.specs.Analyzed.{IsMeetCause, IsWorkCause}
 use Rattle.tv_work.specs.Reach.{Point}
-use Rattle.tv_work.specs.Task.{reached_in}
+use Rattle.tv_work.specs.Task.{reached_in, task_of}
 use Rattle.tv_work.proofs.Causes.{ok-three, meet-cause}
 use Rattle.tv_trail_laws.specs.Met.{IsMet}
-use Rattle.tv_trail.specs.Asked.{form_in, task_of}
 use Rattle.tv_trail.proofs.Stepping.{opened-state, opened-first, opened-reached}
 use Rattle.tv_trail.proofs.follow.open.Goals as goal
 
 pub meet-requires-clause-node : goal.meet-requires-clause-node
 meet-requires-clause-node c = rw c.requires.kept.nodes
-    (start-node (form_in c.args.x.now) c.requires.ready.valid)
+    (start-node (program_of c.args.x.now.program.now) c.requires.ready.valid)
 
 pub returns-in-None-clause-opened : goal.returns-in-None-clause-opened
 returns-in-None-clause-opened c = λ u opens.
@@ -26,7 +25,7 @@ returns-in-None-clause-opened c = λ u opens.
     (sym c.in-None.is
     ∙ c.in_ok-opening.ensures.only u
     (subst (λ (e : EngineForm). IsOpening (program_of e.program) c.args.s.now u)
-    (sym c.requires.ready.engine) opens)))
+    (sym c.requires.ready.made) opens)))
 
 pub returns-in-Some : goal.returns-in-Some
 returns-in-Some c =
@@ -36,8 +35,8 @@ returns-in-Some c =
     in let old = c.args.search.now
     in let new = c.meet.new.self
     in let kept = c.requires.kept
-    in let own : ProgramForm = program_of c.args.x.now.engine.now.program
-    in let is = c.requires.ready.engine
+    in let own : ProgramForm = program_of c.args.stepper.now.program
+    in let is = c.requires.ready.made
     in let opening : IsOpening t.program s u
     = subst (λ (e : EngineForm). IsOpening (program_of e.program) s u) is
     (subst (λ o. IfSome o (IsOpening own s)) c.in-Some.is c.in_ok-opening.ensures.some)
@@ -64,5 +63,5 @@ returns-in-Some c =
           (meet-cause t.program t.max P (reached_in t)
           (opened-reached t c.args.number s u c.requires.initial opening settled old kept))
           c.meet.ensures.cause;
-      scratch = cc;
+      same = cc;
     }

@@ -1,7 +1,7 @@
 use Rattle.std.proofs.Common.{◌∙◌, Some, ap, arith, sym}
 use Rattle.std.proofs.lemmas.Option.{slice_get-get_or, slice_get_within}
 use Rattle.tv_trail_laws.specs.Met.{IsFirst}
-use Rattle.tv_trail.specs.Asked.{task_of}
+use Rattle.tv_work.specs.Task.{task_of}
 use Rattle.tv_trail.proofs.Following.{opened-next}
 use Rattle.tv_trail.proofs.Kept.{meets-on}
 use Rattle.tv_trail.proofs.follow.open_all.Goals as goal
@@ -20,7 +20,7 @@ loop-number-preserved c =
           (slice_get-get_or c.args.x.now.initial.now c.loop-number.number c.s-item.result c.loop-number-test.true
           ∙ ap Some (sym c.s-item.is))
           c.loop-number.invariant.opened c.in_ok-open.ensures.opened;
-      scratch = cc;
+      same = cc;
     }
 
 pub returns-clause-opened : goal.returns-clause-opened

@@ -1,7 +1,8 @@
 use Rattle.std.proofs.Common.{◌+◌, arith, subst}
 use Rattle.tv_trail_laws.specs.Met.{IsFromBelow}
 use Rattle.tv_trail_laws.proofs.Levels.{level-none}
-use Rattle.tv_trail.specs.Asked.{task_of, goal_of}
+use Rattle.tv_work.specs.Task.{task_of}
+use Rattle.tv_trail.specs.Asked.{goal_of}
 use Rattle.tv_trail.specs.Searched.{AnswersLevel}
 use Rattle.tv_trail.proofs.Kept.{longer-on}
 use Rattle.tv_trail.proofs.Levelling.{followed-level, goal-nearest}
@@ -12,12 +13,12 @@ loop-from-init c = record {
   kept = c.requires.kept;
   within = omega arith;
   level = (0, c.requires.level);
-  scratch = cc;
+  same = cc;
 }
 
 pub loop-from-preserved : goal.loop-from-preserved
 loop-from-preserved c =
-    let t = task_of c.args.x.now
+    let t = task_of c.args.x.now.task
     in let G = goal_of c.args.x.now
     in let to = c.len-to.result
     in let from = c.loop-from.from
@@ -33,7 +34,7 @@ loop-from-preserved c =
         followed-level t G old new to from level.0 c.len-to.ensures level.1 meets
             (subst (AnswersLevel t G from to new.found) c.in_default.is c.in_ok-place.ensures.answer),
       );
-      scratch = cc;
+      same = cc;
     }
 
 pub loop-from-smaller : goal.loop-from-smaller
@@ -42,7 +43,7 @@ loop-from-smaller c =
 
 pub returns-in-Some-clause-answer : goal.returns-in-Some-clause-answer
 returns-in-Some-clause-answer c =
-    let t = task_of c.args.x.now
+    let t = task_of c.args.x.now.task
     in let G = goal_of c.args.x.now
     in let to = c.len-to.result
     in let from = c.loop-from.from
@@ -55,5 +56,5 @@ returns-in-Some-clause-answer c =
 pub returns-clause-answer : goal.returns-clause-answer
 returns-clause-answer c =
     let level = c.loop-from.invariant.level
-    in level-none (task_of c.args.x.now) (goal_of c.args.x.now) c.loop-from.search.found c.loop-from.from level.0
+    in level-none (task_of c.args.x.now.task) (goal_of c.args.x.now) c.loop-from.search.found c.loop-from.from level.0
     level.1 (omega (arith, c.len.ensures, c.loop-from-test.false))

@@ -1,6 +1,7 @@
 use Rattle.std.proofs.Common.{arith, subst}
 use Rattle.tv_trail_laws.specs.Met.{Found, IsFromBelow}
-use Rattle.tv_trail.specs.Asked.{task_of, goal_of}
+use Rattle.tv_work.specs.Task.{task_of}
+use Rattle.tv_trail.specs.Asked.{goal_of}
 use Rattle.tv_trail.specs.Searched.{IsFrom, AnswersHere}
 use Rattle.tv_trail.proofs.Following.{passed-next}
 use Rattle.tv_trail.proofs.Kept.{longer-on, meets-on, meets-weaker}
@@ -17,7 +18,7 @@ follow-requires-clause-place c =
 
 pub loop-place-preserved : goal.loop-place-preserved
 loop-place-preserved c =
-    let t = task_of c.args.x.now
+    let t = task_of c.args.x.now.task
     in let place = c.loop-place.place
     in let middle = c.loop-place.search
     in let new = c.follow.new.search
@@ -31,7 +32,7 @@ loop-place-preserved c =
           c.args.from place c.loop-place.invariant.passed
           (subst (λ b. AnswersHere t (goal_of c.args.x.now) place new.found b) c.if-branch.false
           c.in_ok-follow.ensures.answer);
-      scratch = cc;
+      same = cc;
     }
 
 pub returns-then-branch-clause-meets : goal.returns-then-branch-clause-meets

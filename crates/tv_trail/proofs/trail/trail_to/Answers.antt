@@ -8,7 +8,7 @@ use Rattle.tv_trail_laws.specs.declared.trail.Link.{Link}
 use Rattle.tv_trail_laws.specs.declared.trail.Origin.{Origin}
 use Rattle.tv_trail_laws.specs.Met.{IsTrailFrom}
 use Rattle.tv_trail_laws.proofs.Walking.{ComesFrom, comes-next, comes-trail, goes-back}
-use Rattle.tv_trail.specs.Asked.{task_of}
+use Rattle.tv_work.specs.Task.{task_of}
 use Rattle.tv_trail.proofs.Kept.{are-traced, at-settled}
 use Rattle.tv_trail.proofs.Walking.{settled-over}
 use Rattle.tv_trail.proofs.trail.trail_to.Goals as goal

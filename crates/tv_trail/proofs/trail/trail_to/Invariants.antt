@@ -1,7 +1,7 @@
 use Rattle.std.specs.Prelude.{All}
 use Rattle.tv_structure_form.specs.StructureForm.{IsStructure, IsOver}
 use Rattle.tv_trail_laws.proofs.Walking.{ComesFrom}
-use Rattle.tv_trail.specs.Asked.{task_of}
+use Rattle.tv_work.specs.Task.{task_of}
 use Rattle.tv_trail.proofs.trail.trail_to.Given as goal
 
 abbrev pub invariant-loop-links : goal.invariant-loop-links

@@ -47,7 +47,7 @@ loop-edge-preserved c =
       done = All-more Done items c.loop-edge.edge-index 0 c.loop-edge-test.true before
           (does-from t c.args.w (get_or items c.loop-edge.edge-index 0) old middle new c.loop-edge.told more
           c.loop-edge.invariant.advances.grows c.in_ok-follow_edge.ensures.done);
-      scratch = cc;
+      same = cc;
     }
 
 pub returns-clause-done : goal.returns-clause-done

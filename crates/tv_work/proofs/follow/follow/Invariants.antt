@@ -11,5 +11,5 @@ invariant-loop-edge l = record {
   advances : Advances l.initial.search l.initial.told l.search l.told;
   done : All (λ (edge : ℕ). DoesAlong (task_of l.x) l.w edge l.initial.search l.search l.told)
       (take l.edge-index l.edge-items);
-  scratch : l.scratch ≡ l.initial.scratch;
+  same : l.stepper ≡ l.initial.stepper;
 }

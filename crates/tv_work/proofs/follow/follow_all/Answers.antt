@@ -23,7 +23,7 @@ loop-w-preserved c =
       done = done-next t c.pop.new.self c.follow.new.search c.loop-w.told c.follow.new.told c.in-Some.w
           (subst (λ (s : SearchForm). AreDone t s c.loop-w.told) popped c.loop-w.invariant.done)
           c.in_ok-follow.ensures.advances c.in_ok-follow.ensures.done;
-      scratch = cc;
+      same = cc;
     }
 
 pub returns-clause-listed : goal.returns-clause-listed

@@ -9,7 +9,7 @@ invariant-loop-w l = record {
   said : AreSaid (task_of l.x) l.search.listing l.told;
   listed : KeepsListed l.initial.search.listing l.search.listing;
   done : AreDone (task_of l.x) l.search l.told;
-  scratch : l.scratch ≡ l.initial.scratch;
+  same : l.stepper ≡ l.initial.stepper;
 }
 
 abbrev pub decreases-loop-w : goal.decreases-loop-w

@@ -13,7 +13,7 @@ use Rattle.tv_step_laws.proofs.Shapes.{shaped-over}
 use Rattle.tv_work.specs.Analyzed.{IsMeetCause, IsWorkCause, IsAtSource}
 use Rattle.tv_work.specs.Reach.{Point, IsListed}
 use Rattle.tv_work.specs.Search.{StandsFor}
-use Rattle.tv_work.specs.Task.{form_in, task_of, reached_in}
+use Rattle.tv_work.specs.Task.{task_of, reached_in}
 use Rattle.tv_work.proofs.Advancing.{stands-listed, target_at, target-is, arrived-reached, arrived-kept}
 use Rattle.tv_work.proofs.Advancing.{does-along}
 use Rattle.tv_work.proofs.Causes.{ok-three, meet-cause, step-cause}
@@ -22,7 +22,7 @@ use Rattle.tv_work.proofs.follow.follow_edge.Goals as goal
 
 pub stable_step-requires-clause-edge : goal.stable_step-requires-clause-edge
 stable_step-requires-clause-edge c =
-    rw c.requires.ready.engine
+    rw c.requires.ready.made
     (slice_get_within c.args.x.now.program.now.edges c.args.edge c.requires.edge.0 c.requires.edge.1)
 
 pub stable_step-requires-clause-over : goal.stable_step-requires-clause-over
@@ -30,7 +30,7 @@ stable_step-requires-clause-over c =
     let x : Point = record { node = c.args.w.node; structure = c.at.result.now }
     in let has = stands-listed c.args.search.now.listing c.args.w x
     (record { node = refl; structure = c.at.ensures.value })
-    in rw c.requires.ready.engine
+    in rw c.requires.ready.made
     (shaped-over c.args.x.now.program.now c.at.result.now (c.requires.kept.settled x has).shaped)
 
 pub stable_step-requires-clause-stable : goal.stable_step-requires-clause-stable
@@ -38,10 +38,7 @@ stable_step-requires-clause-stable c =
     let x : Point = record { node = c.args.w.node; structure = c.at.result.now }
     in let has = stands-listed c.args.search.now.listing c.args.w x
     (record { node = refl; structure = c.at.ensures.value })
-    in rw c.requires.ready.engine (c.requires.kept.settled x has).stable
-
-pub stable_step-requires-clause-scratch : goal.stable_step-requires-clause-scratch
-stable_step-requires-clause-scratch c = rw c.requires.ready.engine c.requires.ready.room
+    in rw c.requires.ready.made (c.requires.kept.settled x has).stable
 
 pub returns-in_err-out-clause-cause : goal.returns-in_err-out-clause-cause
 returns-in_err-out-clause-cause c =
@@ -58,16 +55,16 @@ returns-in_err-out-clause-cause c =
     in let fault = c.in_err-out.field-0.0
     in let p = err_from_is_err_and c.from_residual.result c.from_residual.ensures.1
     in rw (p.1, p.2)
-    (step-cause (form_in c.args.x.now) c.args.x.now.max c.args.edge (reached_in t) x source fault
+    (step-cause (program_of c.args.x.now.program.now) c.args.x.now.max c.args.edge (reached_in t) x source fault
     (subst (λ (e : EngineForm). IsStepCause (program_of e.program) c.args.edge x.structure fault)
-    c.requires.ready.engine c.in_err-out.ensures.step.cause))
+    c.requires.ready.made c.in_err-out.ensures.step.cause))
 
 pub note-requires-clause-few : goal.note-requires-clause-few
 note-requires-clause-few c =
     let values = c.in_ok-out.out.messages
-    in values-few (form_in c.args.x.now) c.requires.ready.valid c.args.edge c.at.result.now values
+    in values-few (program_of c.args.x.now.program.now) c.requires.ready.valid c.args.edge c.at.result.now values
     (subst (λ (e : EngineForm). AreMessageValues (program_of e.program) c.args.edge c.at.result.now values)
-    c.requires.ready.engine c.in_ok-out.ensures.step.values)
+    c.requires.ready.made c.in_ok-out.ensures.step.values)
 
 pub returns : goal.returns
 returns c =
@@ -88,7 +85,7 @@ returns c =
     in let to = target_at c.as_slice.result.now edge
     in let enters : (taken : Edge) → slice_get t.program.edges edge ≡ Some taken → to ≡ taken.to
     = λ taken at. target-is t.program.edges c.as_slice.result.now edge taken c.as_slice.ensures at
-    in let is = c.requires.ready.engine
+    in let is = c.requires.ready.made
     in let results : AreResults t.program t.mode edge x.structure rs
     = subst (λ (e : EngineForm). AreResults (program_of e.program) e.mode edge x.structure rs) is
     c.in_ok-out.ensures.step.results
@@ -123,5 +120,5 @@ returns c =
           (meet-cause t.program max P (reached_in t)
           (arrived-reached t edge to taken x rs at from (enters taken at) results settled old c.requires.kept has))
           c.meet_all.ensures.cause;
-      scratch = cc;
+      same = cc;
     }

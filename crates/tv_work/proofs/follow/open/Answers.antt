@@ -11,29 +11,26 @@ use Rattle.tv_step_laws.specs.Settled.{IsSettled}
 use Rattle.tv_step_laws.specs.Transfer.{HasNoOpening, IsOpening}
 use Rattle.tv_work.specs.Analyzed.{IsMeetCause, IsWorkCause}
 use Rattle.tv_work.specs.Reach.{Point, IsListed}
-use Rattle.tv_work.specs.Task.{form_in, task_of, reached_in}
+use Rattle.tv_work.specs.Task.{task_of, reached_in}
 use Rattle.tv_work.proofs.Advancing.{open-reached, open-kept}
 use Rattle.tv_work.proofs.Causes.{ok-three, meet-cause}
 use Rattle.tv_work.proofs.follow.open.Goals as goal
 
-pub opening-requires-clause-over : goal.opening-requires-clause-over
-opening-requires-clause-over c =
-    rw c.requires.ready.engine
+pub opening-requires : goal.opening-requires
+opening-requires c =
+    rw c.requires.ready.made
     (All-contains (IsOver c.args.x.now.program.now.vocab) c.args.x.now.initial.now c.args.s.now
     c.requires.ready.initial c.requires.initial)
 
-pub opening-requires-clause-scratch : goal.opening-requires-clause-scratch
-opening-requires-clause-scratch c = rw c.requires.ready.engine c.requires.ready.room
-
 pub meet-requires-clause-node : goal.meet-requires-clause-node
 meet-requires-clause-node c = rw c.requires.kept.nodes
-    (start-node (form_in c.args.x.now) c.requires.ready.valid)
+    (start-node (program_of c.args.x.now.program.now) c.requires.ready.valid)
 
 pub returns-in-None-clause-opened : goal.returns-in-None-clause-opened
 returns-in-None-clause-opened c =
     let s = c.args.s.now
-    in let own : ProgramForm = program_of c.args.x.now.engine.now.program
-    in let is = c.requires.ready.engine
+    in let own : ProgramForm = program_of c.args.stepper.now.program
+    in let is = c.requires.ready.made
     in record {
       listed = λ u opens.
           absurd (none-some u
@@ -53,8 +50,8 @@ returns-in-Some c =
     in let u = c.in-Some.t
     in let old = c.args.search.now
     in let new = c.meet.new.self
-    in let own : ProgramForm = program_of c.args.x.now.engine.now.program
-    in let is = c.requires.ready.engine
+    in let own : ProgramForm = program_of c.args.stepper.now.program
+    in let is = c.requires.ready.made
     in let opening : IsOpening p s u
     = subst (λ (e : EngineForm). IsOpening (program_of e.program) s u) is
     (subst (λ o. IfSome o (IsOpening own s)) c.in-Some.is c.in_ok-opening.ensures.some)
@@ -80,5 +77,5 @@ returns-in-Some c =
       cause = IfErr-weaker c.meet.result (IsMeetCause t.max P) (IsWorkCause p t.max (reached_in t))
           (meet-cause p t.max P (reached_in t) (open-reached t s u c.requires.initial opening settled old c.requires.kept))
           c.meet.ensures.cause;
-      scratch = cc;
+      same = cc;
     }

@@ -23,7 +23,7 @@ loop-s-preserved c =
           c.in_ok-open.ensures.grows;
       opened = All-more Opened xs c.loop-s.s-index c.s-item.result c.loop-s-test.true before
           (subst Opened c.s-item.is c.in_ok-open.ensures.opened);
-      scratch = cc;
+      same = cc;
     }
 
 pub returns-clause-opened : goal.returns-clause-opened

@@ -10,5 +10,5 @@ invariant-loop-s l = record {
   kept : IsSearchState (task_of l.x) l.search;
   grows : Grows l.initial.search l.search;
   opened : All (IsOpenedIn (task_of l.x) l.search.listing) (take l.s-index l.x.initial.now);
-  scratch : l.scratch ≡ l.initial.scratch;
+  same : l.stepper ≡ l.initial.stepper;
 }

@@ -1,4 +1,0 @@
-mod Steps
-mod Wired
-mod Drawn
-mod Kept

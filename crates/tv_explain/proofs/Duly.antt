@@ -1,0 +1,778 @@
+-- A call ends as its words and files call for.
+use Rattle.std.proofs.Common.{◌≡◌, ◌⊎◌, ◌↔◌, ◌<◌, ◌≤◌, ℕ, Bool, true, false, List, [], Option, None, Some}
+use Rattle.std.proofs.Common.{Result}
+use Rattle.std.proofs.Common.{Ok, Err}
+use Rattle.std.proofs.Common.{inl, inr}
+use Rattle.std.proofs.Common.{refl, sym, ap, subst, ◌∙◌, arith, ⊎_elim}
+use Rattle.std.proofs.lemmas.Option.{same_Some, slice_get_past, slice_get_within}
+use Rattle.std.specs.Prelude.{Contains, IsSome, IsTrue, length, slice_get}
+use Rattle.tv_compiled.specs.Compiled.{written}
+use Rattle.tv_front.specs.Meaning.{Means}
+use Rattle.tv_lemmas.proofs.Options.{same_Ok}
+use Rattle.tv_lex.specs.Gather.{longest_gathered}
+use Rattle.tv_lex.specs.Pieces.{Reads}
+use Rattle.tv_lex.specs.declared.token.LexError.{LexError}
+use Rattle.tv_lex.specs.declared.token.Token.{Token}
+use Rattle.tv_listing.specs.declared.analysis.Analysis.{Analysis}
+use Rattle.tv_losses.specs.Losses.{AreLosses}
+use Rattle.tv_losses.specs.declared.told.Losses.{Losses}
+use Rattle.tv_losses_text.specs.Reports.{AreNone}
+use Rattle.tv_model.proofs.Lists.{slice_get-contains}
+use Rattle.tv_model.specs.Program.{MessageForm, ProgramForm, program_of}
+use Rattle.tv_model.specs.declared.program.Program.{Program}
+use Rattle.tv_outside.specs.Told.{Held}
+use Rattle.tv_status.specs.declared.status.FileKind.{FileKind}
+use Rattle.tv_status.specs.declared.status.Role.{Role}
+use Rattle.tv_status.specs.declared.status.Status.TheVariants as status
+use Rattle.tv_step_laws.specs.Budgets.{MeetsIndividuals, MeetsSplits}
+use Rattle.tv_structure_form.specs.StructureForm.{StructureForm}
+use Rattle.tv_texts.specs.Agreement.{GiveOne, SameProgram}
+use Rattle.tv_texts.proofs.OneFile.{one_file, one_held}
+use Rattle.tv_texts.specs.Files.{IsInitialFile, IsProgramFile, IsReportFile, IsSourceFile}
+use Rattle.tv_texts.specs.Meaning.{MeansInitial, MeansProgram, MeansReport, MeansSource}
+use Rattle.tv_trail.specs.Reasons.{ListsAt}
+use Rattle.tv_work.specs.Analyzed.{Meets}
+use Rattle.tv_work.specs.Reach.{AreMoreThan}
+use Rattle.tv_explain.proofs.Alike.{AreRead, SameInputs, moved, not_refused, one_inputs, one_refusal, read_of}
+use Rattle.tv_explain.specs.Answers.{FilesMeanSuch, HasNoText, IsAnswer, IsCompiledText, IsStopped}
+use Rattle.tv_explain.specs.Answers.{IsUnwritten, NamesNothing, Reached, compiled_lines}
+use Rattle.tv_explain.specs.Call.{Commands, IsEnded, IsFound}
+use Rattle.tv_explain.specs.Delivery.{IsDelivered, ending_for}
+use Rattle.tv_explain.specs.Due.{Owes, CallsWithinLimits, CanAnswer, CanBeWritten, CommandOwes}
+use Rattle.tv_explain.specs.Due.{EndsAsOwed}
+use Rattle.tv_explain.specs.Due.{HasMessage, IsAbsent, MayStand, AtLimit, IsWithinLimits, KeepsLimits}
+use Rattle.tv_explain.specs.Due.{LacksMessage}
+use Rattle.tv_explain.specs.Due.{LacksStructure, ListsSuch, LosesSome, LosesSuch, without_place}
+use Rattle.tv_explain.specs.Faults.{ending_with}
+use Rattle.tv_explain.specs.Meaning.{FilesMean, IsRefused, drawn_form}
+use Rattle.tv_explain.specs.declared.fault.Answer.{Answer}
+use Rattle.tv_explain.specs.declared.fault.Ending.{Ending}
+use Rattle.tv_explain.specs.declared.fault.Ending.TheVariants.{As, Lost, Absent, NotWritten as Unwritable}
+use Rattle.tv_explain.specs.declared.fault.Fault.{Fault}
+use Rattle.tv_explain.specs.declared.fault.Fault.TheVariants as fault
+use Rattle.tv_explain.specs.declared.fault.Sought.{Sought}
+use Rattle.tv_explain.specs.declared.fault.Sought.TheVariants as sought
+use Rattle.tv_explain.specs.declared.fault.Unwritten.{Unwritten}
+use Rattle.tv_explain.specs.declared.fault.Unwritten.TheVariants as unwritten
+use Rattle.tv_explain.specs.declared.inputs.Inputs.{Inputs}
+use Rattle.tv_texts.specs.Sources.{IsSourceText}
+use Rattle.tv_texts.specs.declared.source.SourceText.{SourceText}
+use Rattle.tv_explain_text.specs.Texts.{action_messages, messages_at}
+use Rattle.tv_explain_words.specs.Words.{AnalyzedForm, CommandForm, Shows, ListsEdges, TellsMessage}
+use Rattle.tv_explain_words.specs.Words.{TellsStructure, TellsLosses, Compiles, Spells, SpellsNothing}
+
+-- ---- views of endings
+
+-- what may be called for
+abbrev DueView : Option Held → CommandForm → Ending → Type 0
+DueView told command due = ((due ≡ As status.Done) × CanAnswer told command)
+    ⊎ (((due ≡ Lost) × LosesSome told command)
+    ⊎ (((r : Role) × (k : FileKind) × (due ≡ As (status.FileFault r k)) × IsRefused told command r k)
+    ⊎ (((what : Sought) × (due ≡ Absent what) × IsAbsent told command what)
+    ⊎ ((why : Unwritten) × (due ≡ Unwritable why) × IsUnwritten told command why))))
+
+due_view : (told : Option Held) (command : CommandForm) (due : Ending) → CommandOwes told command due
+    → DueView told command due
+due_view told command (As status.Done) h = inl (refl, h)
+due_view told command (As (status.FileFault r k)) h = inr (inr (inl (r, k, refl, h)))
+due_view told command (As other) h = absurd h
+due_view told command Lost h = inr (inl (refl, h))
+due_view told command (Absent what) h = inr (inr (inr (inl (what, refl, h))))
+due_view told command (Unwritable why) h = inr (inr (inr (inr (why, refl, h))))
+
+-- a limit of the analysis is passed
+abbrev PassesLimit : AnalyzedForm → Inputs → Type 0
+PassesLimit of inputs = AreMoreThan of.max (Reached of inputs)
+    ⊎ (Meets (drawn_form inputs) (MeetsSplits (drawn_form inputs)) (Reached of inputs)
+    ⊎ Meets (drawn_form inputs) (MeetsIndividuals (drawn_form inputs)) (Reached of inputs))
+
+abbrev Stops : Option Held → CommandForm → Type 0
+Stops told command = FilesMeanSuch told command PassesLimit
+
+-- how a call ends that reads all its files and keeps its memory
+abbrev EndView : Option Held → CommandForm → Ending → Type 0
+EndView told command ending = ((a : Answer) × (ending ≡ ending_with a.is_lost) × IsAnswer told command a)
+    ⊎ (((r : Role) × (k : FileKind) × (ending ≡ As (status.FileFault r k)) × IsRefused told command r k)
+    ⊎ ((AtLimit ending × Stops told command)
+    ⊎ (((what : Sought) × (ending ≡ Absent what)
+    × FilesMeanSuch told command (λ of inputs. NamesNothing command of inputs what))
+    ⊎ ((why : Unwritten) × (ending ≡ Unwritable why) × IsUnwritten told command why))))
+
+-- ---- what an ending has read
+
+module _ (told : Option Held) where
+  such_read : (command : CommandForm) (P : AnalyzedForm → Inputs → Type 0) → FilesMeanSuch told command P
+      → AreRead told command
+  such_read (TellsMessage of edge number) P h = (h.0, h.1)
+  such_read (TellsStructure of node index) P h = (h.0, h.1)
+  such_read (TellsLosses of) P h = (h.0, h.1)
+  such_read other P h = absurd h
+
+  such_also : (command : CommandForm) (P Q : AnalyzedForm → Inputs → Type 0)
+      → ((of : AnalyzedForm) (inputs : Inputs) → P of inputs → Q of inputs) → FilesMeanSuch told command P
+      → FilesMeanSuch told command Q
+  such_also (TellsMessage of edge number) P Q f h = (h.0, h.1, f of h.0 h.2)
+  such_also (TellsStructure of node index) P Q f h = (h.0, h.1, f of h.0 h.2)
+  such_also (TellsLosses of) P Q f h = (h.0, h.1, f of h.0 h.2)
+  such_also other P Q f h = absurd h
+
+module _ (told : Option Held)
+    (source_read : (name : List ℕ) (read : SourceText) → IsSourceText told name read
+    → IsSourceFile told name (Ok read.program))
+  where
+    answer_read : (command : CommandForm) (a : Answer) → IsAnswer told command a → AreRead told command
+    answer_read (Shows program report) a h = (h.0.0, h.0.1, (h.0.2.0, h.0.2.1))
+    answer_read (ListsEdges program) a h =
+        let x = read_of told false program h.0.0 h.0.1 in (x.0, x.1)
+    answer_read (TellsMessage of edge number) a h = (h.0.0, h.0.1)
+    answer_read (TellsStructure of node index) a h = (h.0.0, h.0.1)
+    answer_read (TellsLosses of) a h = (h.0, h.1)
+    answer_read (Compiles source) a h = (h.0.0.program, source_read source h.0.0 h.0.1)
+
+    done_read : (command : CommandForm) → CanAnswer told command → AreRead told command
+    done_read (Shows program report) h = h
+    done_read (ListsEdges program) h = h
+    done_read (TellsMessage of edge number) h = (h.0, h.1)
+    done_read (TellsStructure of node index) h = (h.0, h.1)
+    done_read (TellsLosses of) h = (h.0, h.1)
+    done_read (Compiles source) h = (h.0.program, source_read source h.0 h.1)
+
+    some_read : (command : CommandForm) → LosesSome told command → AreRead told command
+    some_read (TellsLosses of) h = (h.0, h.1)
+    some_read other h = absurd h
+
+    absent_read : (command : CommandForm) (what : Sought) → IsAbsent told command what → AreRead told command
+    absent_read (TellsMessage of edge number) what h = (h.0, h.1)
+    absent_read (TellsStructure of node index) what h = (h.0, h.1)
+    absent_read other what h = absurd h
+
+    unwritten_read : (command : CommandForm) (why : Unwritten) → IsUnwritten told command why
+        → AreRead told command
+    unwritten_read (Compiles source) why h = (h.0.program, source_read source h.0 h.1)
+    unwritten_read other why h = absurd h
+
+-- ---- what is there isn't lacking
+
+past_within : {X : Type 0} (xs : List X) (k : ℕ) (x : X) → slice_get xs k ≡ Some x → length xs ≤ k → ⊥
+past_within xs k x at past = let lt = slice_get_within xs k x at in omega (arith, lt, past)
+
+not_both : (m n : ℕ) → m < n → n ≤ m → ⊥
+not_both m n lt le = omega (arith, lt, le)
+
+none_at : (number : ℕ) (x : MessageForm) → slice_get [] number ≡ Some x → ⊥
+none_at number x at = let lt = slice_get_within [] number x at in omega (arith, lt)
+
+-- an edge that isn't there has no message
+edge_within : (p : ProgramForm) (edge number : ℕ) (x : MessageForm)
+    → slice_get (messages_at p edge) number ≡ Some x → length p.edges ≤ edge → ⊥
+edge_within p edge number x at past = none_at number x
+    (subst (λ e. slice_get (action_messages p.actions e) number ≡ Some x) (slice_get_past p.edges edge past) at)
+
+message_there : (p : ProgramForm) (edge number : ℕ) (x : MessageForm) (what : Sought)
+    → slice_get (messages_at p edge) number ≡ Some x → LacksMessage p edge number what → ⊥
+message_there p edge number x sought.Edge at lacks = edge_within p edge number x at lacks
+message_there p edge number x sought.Message at lacks = past_within (messages_at p edge) number x at lacks.1
+message_there p edge number x other at lacks = lacks
+
+-- what is named and what isn't there
+named_there : (p : ProgramForm) (edge number : ℕ) (what : Sought) → HasMessage p edge number
+    → LacksMessage p edge number what → ⊥
+named_there p edge number sought.Edge has lacks = not_both edge (length p.edges) has.0 lacks
+named_there p edge number sought.Message has lacks =
+    not_both number (length (messages_at p edge)) has.1 lacks.1
+named_there p edge number other has lacks = lacks
+
+one_lack : (p : ProgramForm) (edge number : ℕ) (what other : Sought) → LacksMessage p edge number what
+    → LacksMessage p edge number other → what ≡ other
+one_lack p edge number sought.Edge sought.Edge h k = refl
+one_lack p edge number sought.Edge sought.Message h k = absurd (not_both edge (length p.edges) k.0 h)
+one_lack p edge number sought.Message sought.Edge h k = absurd (not_both edge (length p.edges) h.0 k)
+one_lack p edge number sought.Message sought.Message h k = refl
+one_lack p edge number sought.Edge sought.Node h k = absurd k
+one_lack p edge number sought.Edge sought.Structure h k = absurd k
+one_lack p edge number sought.Message sought.Node h k = absurd k
+one_lack p edge number sought.Message sought.Structure h k = absurd k
+one_lack p edge number sought.Node other h k = absurd h
+one_lack p edge number sought.Structure other h k = absurd h
+
+-- ---- limits
+
+-- limits that are kept aren't passed
+kept : (of : AnalyzedForm) (a b : Inputs) → SameInputs a b → IsWithinLimits of a → PassesLimit of b → ⊥
+kept of a b same keeps passes = none
+    (moved (λ p i. KeepsLimits p of.mode i of.max) a b same keeps) passes
+  where
+    none : KeepsLimits (drawn_form b) of.mode b.initial of.max → PassesLimit of b → ⊥
+    none keeps (inl many) = keeps.few many
+    none keeps (inr (inl meets)) = (keeps.budgets meets.edge meets.at meets.source).splits meets.budget
+    none keeps (inr (inr meets)) = (keeps.budgets meets.edge meets.at meets.source).individuals meets.budget
+
+-- ---- losses
+
+lost : (is_lost : Bool) (none : Type 0) → (IsTrue is_lost ↔ (¬ none)) → none → is_lost ≡ false
+lost true none any is = absurd (any.0 refl is)
+lost false none any is = refl
+
+lost_some : (is_lost : Bool) (none : Type 0) → (IsTrue is_lost ↔ (¬ none)) → (¬ none) → is_lost ≡ true
+lost_some is_lost none any is = any.1 is
+
+module _ (of : AnalyzedForm) (a b : Inputs) (same : SameInputs a b) where
+  loses : (AreSuch : Losses → Type 0) → LosesSuch of a AreSuch → LosesSuch of b AreSuch
+  loses AreSuch h = moved
+      (λ p i. (losses : Losses) → AreLosses p of.mode i of.max losses → AreSuch losses) a b same h
+
+  lists : (node : List ℕ) (AreSuch : List StructureForm → Type 0) → ListsSuch of a node AreSuch
+      → ListsSuch of b node AreSuch
+  lists node AreSuch h = moved
+      (λ p i. (place : ℕ) (structures : List StructureForm) → slice_get p.nodes place ≡ Some node
+      → ListsAt p of.mode i of.max place structures → AreSuch structures) a b same h
+
+  lacks_message : (edge number : ℕ) (what : Sought) → LacksMessage (drawn_form a) edge number what
+      → LacksMessage (drawn_form b) edge number what
+  lacks_message edge number what h = moved (λ p i. LacksMessage p edge number what) a b same h
+
+  has_message : (edge number : ℕ) → HasMessage (drawn_form a) edge number → HasMessage (drawn_form b) edge number
+  has_message edge number h = moved (λ p i. HasMessage p edge number) a b same h
+
+  has_node : (node : List ℕ) → Contains (drawn_form a).nodes node → Contains (drawn_form b).nodes node
+  has_node node h = moved (λ p i. Contains p.nodes node) a b same h
+
+  has_no_node : (node : List ℕ) → (¬ Contains (drawn_form a).nodes node) → ¬ Contains (drawn_form b).nodes node
+  has_no_node node h = moved (λ p i. ¬ Contains p.nodes node) a b same h
+
+-- the message that the words name isn't there
+message_lack : (p : AnalyzedForm) (of : AnalyzedForm) (inputs : Inputs) (edge number : ℕ) (what : Sought)
+    → NamesNothing (TellsMessage p edge number) of inputs what → LacksMessage (drawn_form inputs) edge number what
+message_lack p of inputs edge number sought.Edge h = h
+message_lack p of inputs edge number sought.Message h = h
+message_lack p of inputs edge number other h = h
+
+-- ---- compiled programs
+
+-- a program that can be written isn't left unwritten
+written_not : (a b : SourceText) (why : Unwritten) → (compiled_lines a ≡ compiled_lines b)
+    → SameProgram a.program b.program → CanBeWritten a → HasNoText b why → ⊥
+written_not a b unwritten.TooLong same program can lacking =
+    not_both longest_gathered (length (compiled_lines a))
+    (subst (λ (t : List ℕ). longest_gathered < length t) (sym same) lacking) can.fits
+written_not a b unwritten.Differs same program can lacking =
+    lacking (subst (λ p. Means (compiled_lines b) p) program
+    (subst (λ t. Means t (program_of a.program)) same can.means))
+
+-- ---- endings that are due
+
+alike : (a b ending due : Ending) → ending ≡ a → due ≡ b → without_place a ≡ without_place b
+    → without_place ending ≡ without_place due
+alike a b ending due e d h = ap without_place e ∙ h ∙ sym (ap without_place d)
+
+answered : (is_lost lost : Bool) → is_lost ≡ lost → without_place (ending_with is_lost) ≡ ending_with lost
+answered is_lost true e = rw e refl
+answered is_lost false e = rw e refl
+
+module _ (told : Option Held)
+    (programs : (name : List ℕ) → GiveOne SameProgram (IsProgramFile told name) (IsProgramFile told name))
+    (sources : (name : List ℕ) → GiveOne SameProgram (IsSourceFile told name) (IsSourceFile told name))
+    (initials : (name : List ℕ) (p q : Program) → SameProgram p q
+    → GiveOne {A = List StructureForm} ◌≡◌ (IsInitialFile told name p) (IsInitialFile told name q))
+    (reports : (name : List ℕ) (p q : Program) → SameProgram p q
+    → GiveOne {A = Analysis} ◌≡◌ (IsReportFile told name p) (IsReportFile told name q))
+    (source_read : (name : List ℕ) (read : SourceText) → IsSourceText told name read
+    → IsSourceFile told name (Ok read.program))
+    (texts : (name : List ℕ) (a b : SourceText) → IsSourceText told name a → IsSourceText told name b
+    → (compiled_lines a ≡ compiled_lines b) × SameProgram a.program b.program)
+  where
+    same_inputs : (of : AnalyzedForm) (a b : Inputs) → FilesMean told of a → FilesMean told of b → SameInputs a b
+    same_inputs of a b h k = one_inputs told programs sources initials reports of a b h k
+
+    unrefused : (command : CommandForm) (r : Role) (k : FileKind) → AreRead told command
+        → IsRefused told command r k → ⊥
+    unrefused command r k h refused = not_refused told programs sources initials reports command r k h refused
+
+    -- ---- an answer that was given
+
+    done_answer : (command : CommandForm) (a : Answer) → IsAnswer told command a → CanAnswer told command
+        → a.is_lost ≡ false
+    done_answer (TellsLosses of) a h can =
+        let same = same_inputs of can.0 h.0 can.1 h.1 in
+        let none = loses of can.0 h.0 same AreNone can.3 h.2.losses h.2.are in
+        lost a.is_lost (AreNone h.2.losses) h.2.any none
+    done_answer (Shows program report) a h can = h.1
+    done_answer (ListsEdges program) a h can = h.1
+    done_answer (TellsMessage of edge number) a h can = h.1
+    done_answer (TellsStructure of node index) a h can = h.1
+    done_answer (Compiles source) a h can = h.1
+
+    lost_answer : (command : CommandForm) (a : Answer) → IsAnswer told command a → LosesSome told command
+        → a.is_lost ≡ true
+    lost_answer (TellsLosses of) a h some =
+        let same = same_inputs of some.0 h.0 some.1 h.1 in
+        let such = loses of some.0 h.0 same (λ losses. ¬ AreNone losses) some.3 h.2.losses h.2.are in
+        lost_some a.is_lost (AreNone h.2.losses) h.2.any such
+    lost_answer other a h some = absurd some
+
+    answer_there : (command : CommandForm) (a : Answer) (what : Sought) → IsAnswer told command a
+        → IsAbsent told command what → ⊥
+    answer_there (TellsMessage of edge number) a what h lacks =
+        let same = same_inputs of lacks.0 h.0.0 lacks.1 h.0.1 in
+        message_there (drawn_form h.0.0) edge number h.0.2.0 what h.0.2.1
+        (lacks_message of lacks.0 h.0.0 same edge number what lacks.3)
+    answer_there (TellsStructure of node index) a what h lacks = by what lacks.3
+      where
+        same : SameInputs lacks.0 h.0.0
+        same = same_inputs of lacks.0 h.0.0 lacks.1 h.0.1
+
+        by : (what : Sought) → LacksStructure of lacks.0 node index what → ⊥
+        by sought.Node none = has_no_node of lacks.0 h.0.0 same node none
+            (slice_get-contains (drawn_form h.0.0).nodes h.0.2.0 node h.0.2.1)
+        by sought.Structure none =
+            let led = h.0.2.2.1 in
+            let past = lists of lacks.0 h.0.0 same node (λ structures. length structures ≤ index) none.1
+            h.0.2.0 led.structures h.0.2.1 led.listed in
+            past_within led.structures index led.structure led.there past
+        by other none = none
+    answer_there other a what h lacks = lacks
+
+    answer_written : (command : CommandForm) (a : Answer) (why : Unwritten) → IsAnswer told command a
+        → IsUnwritten told command why → ⊥
+    answer_written (Compiles source) a why h lacking =
+        let both = texts source h.0.0 lacking.0 h.0.1 lacking.1 in
+        written_not h.0.0 lacking.0 why both.0 both.1 (can h.0.0 a.text.items h.0.2) lacking.2
+      where
+        can : (read : SourceText) (text : List ℕ) → IsCompiledText read text → CanBeWritten read
+        can read text is = record {
+          fits = subst (λ (t : List ℕ). length t ≤ longest_gathered) is.is is.fits;
+          means = subst (λ t. Means t (program_of read.program)) is.is is.means;
+        }
+    answer_written other a why h lacking = lacking
+
+    -- ---- limits, and what isn't there
+
+    within_limits : (command : CommandForm) → Stops told command → FilesMeanSuch told command IsWithinLimits → ⊥
+    within_limits (TellsMessage of edge number) h keeps =
+        kept of keeps.0 h.0 (same_inputs of keeps.0 h.0 keeps.1 h.1) keeps.2 h.2
+    within_limits (TellsStructure of node index) h keeps =
+        kept of keeps.0 h.0 (same_inputs of keeps.0 h.0 keeps.1 h.1) keeps.2 h.2
+    within_limits (TellsLosses of) h keeps =
+        kept of keeps.0 h.0 (same_inputs of keeps.0 h.0 keeps.1 h.1) keeps.2 h.2
+    within_limits other h keeps = h
+
+    done_within : (command : CommandForm) → Stops told command → CanAnswer told command → ⊥
+    done_within (TellsMessage of edge number) h can =
+        within_limits (TellsMessage of edge number) h (can.0, can.1, can.2)
+    done_within (TellsStructure of node index) h can =
+        within_limits (TellsStructure of node index) h (can.0, can.1, can.2)
+    done_within (TellsLosses of) h can = within_limits (TellsLosses of) h (can.0, can.1, can.2)
+    done_within other h can = h
+
+    some_within : (command : CommandForm) → Stops told command → LosesSome told command → ⊥
+    some_within (TellsLosses of) h some = within_limits (TellsLosses of) h (some.0, some.1, some.2)
+    some_within other h some = some
+
+    stops_there : (command : CommandForm) (what : Sought) → Stops told command → IsAbsent told command what → ⊥
+    stops_there (TellsMessage of edge number) what h lacks =
+        within_limits (TellsMessage of edge number) h (lacks.0, lacks.1, lacks.2)
+    stops_there (TellsStructure of node index) what h lacks =
+        within_limits (TellsStructure of node index) h (lacks.0, lacks.1, lacks.2)
+    stops_there other what h lacks = lacks
+
+    -- ---- what isn't there
+
+    absent_done : (command : CommandForm) (what : Sought)
+        → FilesMeanSuch told command (λ of inputs. NamesNothing command of inputs what)
+        → CanAnswer told command → ⊥
+    absent_done (TellsMessage of edge number) what h can =
+        let same = same_inputs of can.0 h.0 can.1 h.1 in
+        named_there (drawn_form h.0) edge number what (has_message of can.0 h.0 same edge number can.3)
+        (message_lack of of h.0 edge number what h.2)
+    absent_done (TellsStructure of node index) what h can = by what h.2
+      where
+        same : SameInputs can.0 h.0
+        same = same_inputs of can.0 h.0 can.1 h.1
+
+        by : (what : Sought) → NamesNothing (TellsStructure of node index) of h.0 what → ⊥
+        by sought.Node none = none (has_node of can.0 h.0 same node can.3)
+        by sought.Structure none =
+            not_both index (length none.2.0)
+            (lists of can.0 h.0 same node (λ structures. index < length structures) can.4 none.0 none.2.0 none.1
+            none.2.1)
+            none.2.2
+        by other none = none
+    absent_done (TellsLosses of) what h can = h.2
+    absent_done other what h can = h
+
+    absent_some : (command : CommandForm) (what : Sought)
+        → FilesMeanSuch told command (λ of inputs. NamesNothing command of inputs what)
+        → LosesSome told command → ⊥
+    absent_some (TellsLosses of) what h some = h.2
+    absent_some other what h some = some
+
+    one_absence : (command : CommandForm) (what other : Sought)
+        → FilesMeanSuch told command (λ of inputs. NamesNothing command of inputs what)
+        → IsAbsent told command other → what ≡ other
+    one_absence (TellsMessage of edge number) what other h lacks =
+        let same = same_inputs of lacks.0 h.0 lacks.1 h.1 in
+        one_lack (drawn_form h.0) edge number what other (message_lack of of h.0 edge number what h.2)
+        (lacks_message of lacks.0 h.0 same edge number other lacks.3)
+    one_absence (TellsStructure of node index) what other h lacks = by what other h.2 lacks.3
+      where
+        same : SameInputs lacks.0 h.0
+        same = same_inputs of lacks.0 h.0 lacks.1 h.1
+
+        by : (what other : Sought) → NamesNothing (TellsStructure of node index) of h.0 what
+            → LacksStructure of lacks.0 node index other → what ≡ other
+        by sought.Node sought.Node none lacks = refl
+        by sought.Node sought.Structure none lacks = absurd (none (has_node of _ h.0 same node lacks.0))
+        by sought.Structure sought.Node none lacks = absurd (has_no_node of _ h.0 same node lacks
+            (slice_get-contains (drawn_form h.0).nodes none.0 node none.1))
+        by sought.Structure sought.Structure none lacks = refl
+        by sought.Node sought.Edge none lacks = absurd lacks
+        by sought.Node sought.Message none lacks = absurd lacks
+        by sought.Structure sought.Edge none lacks = absurd lacks
+        by sought.Structure sought.Message none lacks = absurd lacks
+        by sought.Edge other none lacks = absurd none
+        by sought.Message other none lacks = absurd none
+    one_absence other what sought h lacks = absurd lacks
+
+    -- ---- programs that aren't written
+
+    unwritten_done : (command : CommandForm) (why : Unwritten) → IsUnwritten told command why
+        → CanAnswer told command → ⊥
+    unwritten_done (Compiles source) why lacking can =
+        let both = texts source can.0 lacking.0 can.1 lacking.1 in
+        written_not can.0 lacking.0 why both.0 both.1 can.2 lacking.2
+    unwritten_done other why lacking can = lacking
+
+    unwritten_some : (command : CommandForm) (why : Unwritten) → IsUnwritten told command why
+        → LosesSome told command → ⊥
+    unwritten_some (Compiles source) why lacking some = some
+    unwritten_some other why lacking some = lacking
+
+    unwritten_absent : (command : CommandForm) (why : Unwritten) (what : Sought)
+        → IsUnwritten told command why → IsAbsent told command what → ⊥
+    unwritten_absent (Compiles source) why what lacking lacks = lacks
+    unwritten_absent other why what lacking lacks = lacking
+
+    unwritten_such : (command : CommandForm) (why : Unwritten) (P : AnalyzedForm → Inputs → Type 0)
+        → IsUnwritten told command why → FilesMeanSuch told command P → ⊥
+    unwritten_such (Compiles source) why P lacking h = h
+    unwritten_such other why P lacking h = lacking
+
+    -- ---- one after the other
+
+    read_not_refused : (command : CommandForm) (r : Role) (k : FileKind) → IsRefused told command r k
+        → AreRead told command → ⊥
+    read_not_refused command r k refused read = unrefused command r k read refused
+
+    answer_duly : (command : CommandForm) (a : Answer) (ending due : Ending) → ending ≡ ending_with a.is_lost
+        → IsAnswer told command a → DueView told command due → without_place ending ≡ without_place due
+    answer_duly command a ending due e is (inl (d, can)) =
+        alike (ending_with a.is_lost) (As status.Done) ending due e d
+        (answered a.is_lost false (done_answer command a is can))
+    answer_duly command a ending due e is (inr (inl (d, some))) =
+        alike (ending_with a.is_lost) Lost ending due e d
+        (answered a.is_lost true (lost_answer command a is some))
+    answer_duly command a ending due e is (inr (inr (inl (r, k, d, refused)))) =
+        absurd (unrefused command r k (answer_read told source_read command a is) refused)
+    answer_duly command a ending due e is (inr (inr (inr (inl (what, d, lacks))))) =
+        absurd (answer_there command a what is lacks)
+    answer_duly command a ending due e is (inr (inr (inr (inr (why, d, lacking))))) =
+        absurd (answer_written command a why is lacking)
+
+    refused_duly : (command : CommandForm) (r : Role) (k : FileKind) (ending due : Ending)
+        → ending ≡ As (status.FileFault r k) → IsRefused told command r k → DueView told command due
+        → without_place ending ≡ without_place due
+    refused_duly command r k ending due e is (inl (d, can)) =
+        absurd (unrefused command r k (done_read told source_read command can) is)
+    refused_duly command r k ending due e is (inr (inl (d, some))) =
+        absurd (unrefused command r k (some_read told source_read command some) is)
+    refused_duly command r k ending due e is (inr (inr (inl (s, l, d, also)))) =
+        let one = one_refusal told programs sources initials reports command r s k l is also in
+        alike (As (status.FileFault r k)) (As (status.FileFault s l)) ending due e d (rw (one.0, one.1) refl)
+    refused_duly command r k ending due e is (inr (inr (inr (inl (what, d, lacks))))) =
+        absurd (unrefused command r k (absent_read told source_read command what lacks) is)
+    refused_duly command r k ending due e is (inr (inr (inr (inr (why, d, lacking))))) =
+        absurd (unrefused command r k (unwritten_read told source_read command why lacking) is)
+
+    stopped_duly : (command : CommandForm) (due : Ending) → Stops told command → DueView told command due → ⊥
+    stopped_duly command due h (inl (d, can)) = done_within command h can
+    stopped_duly command due h (inr (inl (d, some))) = some_within command h some
+    stopped_duly command due h (inr (inr (inl (r, k, d, refused)))) =
+        unrefused command r k (such_read told command _ h) refused
+    stopped_duly command due h (inr (inr (inr (inl (what, d, lacks))))) = stops_there command what h lacks
+    stopped_duly command due h (inr (inr (inr (inr (why, d, lacking))))) = unwritten_such command why _ lacking h
+
+    absent_duly : (command : CommandForm) (what : Sought) (ending due : Ending) → ending ≡ Absent what
+        → FilesMeanSuch told command (λ of inputs. NamesNothing command of inputs what)
+        → DueView told command due → without_place ending ≡ without_place due
+    absent_duly command what ending due e h (inl (d, can)) = absurd (absent_done command what h can)
+    absent_duly command what ending due e h (inr (inl (d, some))) = absurd (absent_some command what h some)
+    absent_duly command what ending due e h (inr (inr (inl (r, k, d, refused)))) =
+        absurd (unrefused command r k (such_read told command _ h) refused)
+    absent_duly command what ending due e h (inr (inr (inr (inl (other, d, lacks))))) =
+        alike (Absent what) (Absent other) ending due e d (ap Absent (one_absence command what other h lacks))
+    absent_duly command what ending due e h (inr (inr (inr (inr (why, d, lacking))))) =
+        absurd (unwritten_such command why _ lacking h)
+
+    unwritten_duly : (command : CommandForm) (why : Unwritten) (ending due : Ending) → ending ≡ Unwritable why
+        → IsUnwritten told command why → DueView told command due → without_place ending ≡ without_place due
+    unwritten_duly command why ending due e lacking (inl (d, can)) = absurd (unwritten_done command why lacking can)
+    unwritten_duly command why ending due e lacking (inr (inl (d, some))) =
+        absurd (unwritten_some command why lacking some)
+    unwritten_duly command why ending due e lacking (inr (inr (inl (r, k, d, refused)))) =
+        absurd (unrefused command r k (unwritten_read told source_read command why lacking) refused)
+    unwritten_duly command why ending due e lacking (inr (inr (inr (inl (what, d, lacks))))) =
+        absurd (unwritten_absent command why what lacking lacks)
+    unwritten_duly command why ending due e lacking (inr (inr (inr (inr (other, d, also))))) =
+        alike (Unwritable why) (Unwritable other) ending due e d refl
+
+    command_duly : (command : CommandForm) (ending due : Ending) → EndView told command ending
+        → DueView told command due → without_place ending ≡ without_place due
+    command_duly command ending due (inl (a, e, is)) view = answer_duly command a ending due e is view
+    command_duly command ending due (inr (inl (r, k, e, is))) view = refused_duly command r k ending due e is view
+    command_duly command ending due (inr (inr (inl (limit, h)))) view = absurd (stopped_duly command due h view)
+    command_duly command ending due (inr (inr (inr (inl (what, e, h))))) view =
+        absent_duly command what ending due e h view
+    command_duly command ending due (inr (inr (inr (inr (why, e, lacking))))) view =
+        unwritten_duly command why ending due e lacking view
+
+-- ---- calls
+
+-- how a call ends: its words spell nothing, it has an excuse, or its command ends so
+abbrev CallEnds : List (List ℕ) → Option Held → Ending → Type 0
+CallEnds words told ending = ((ending ≡ As status.Usage) × SpellsNothing words)
+    ⊎ (MayStand ending ⊎ Commands words (λ command. EndView told command ending))
+
+found_ends : (words : List (List ℕ)) (told : Option Held) (rose steady : Type 0) (found : Result Answer Fault)
+    → IsFound words told rose steady found → CallEnds words told (ending_for found)
+found_ends words told rose steady (Ok a) h = inr (inr (h.0, h.1, inl (a, refl, h.2)))
+found_ends words told rose steady (Err fault.Usage) h = inl (refl, h)
+found_ends words told rose steady (Err (fault.FileFault r k)) h =
+    inr (inr (h.0, h.1, inr (inl (r, k, refl, h.2))))
+found_ends words told rose steady (Err (fault.Structures max)) h =
+    inr (inr (
+      h.0,
+      h.1,
+      inr (inr (inl (
+        tt,
+        such_also told h.0 (λ of i. IsStopped h.0 of i (fault.Structures max))
+            PassesLimit (λ of i stop. inl (subst (λ m. AreMoreThan m (Reached of i)) stop.0 stop.1)) h.2,
+      ))),
+    ))
+found_ends words told rose steady (Err fault.TooManySplits) h =
+    inr (inr (
+      h.0,
+      h.1,
+      inr (inr (inl (
+        tt,
+        such_also told h.0 (λ of i. IsStopped h.0 of i fault.TooManySplits)
+            PassesLimit (λ of i stop. inr (inl stop)) h.2,
+      ))),
+    ))
+found_ends words told rose steady (Err fault.TooManyIndividuals) h =
+    inr (inr (
+      h.0,
+      h.1,
+      inr (inr (inl (
+        tt,
+        such_also told h.0 (λ of i. IsStopped h.0 of i fault.TooManyIndividuals)
+            PassesLimit (λ of i stop. inr (inr stop)) h.2,
+      ))),
+    ))
+found_ends words told rose steady (Err (fault.NotThere what)) h =
+    inr (inr (h.0, h.1, inr (inr (inr (inl (what, refl, h.2))))))
+found_ends words told rose steady (Err (fault.NotWritten why)) h =
+    inr (inr (h.0, h.1, inr (inr (inr (inr (why, refl, h.2))))))
+found_ends words told rose steady (Err fault.ReadFault) h = inr (inl tt)
+found_ends words told rose steady (Err fault.Memory) h = inr (inl tt)
+
+-- a call ends as its work did, unless a sink failed
+pub ends_as : (found : Result Answer Fault) (ending : Ending) (out_rose err_rose : Type 0)
+    (out_old out_new err_old err_new : Option (List ℕ))
+    → IsDelivered found ending out_rose err_rose out_old out_new err_old err_new
+    → (ending ≡ ending_for found) ⊎ ((ending ≡ As status.WriteFault) × (out_rose ⊎ err_rose))
+ends_as (Ok a) ending or er oo on eo en (inl (e, given, same)) = inl e
+ends_as (Ok a) ending or er oo on eo en (inr (rose, front, inl (e, taken))) = inr (e, inl rose)
+ends_as (Ok a) ending or er oo on eo en (inr (rose, front, inr (e, its, taken))) = inr (e, inl rose)
+ends_as (Err f) ending or er oo on eo en (same, inl (e, taken)) = inl e
+ends_as (Err f) ending or er oo on eo en (same, inr (e, its, taken)) = inr (e, inr its)
+
+call_ends : (words : List (List ℕ)) (told : Option Held) (read_rose steady out_rose err_rose : Type 0)
+    (out_old out_new err_old err_new : Option (List ℕ)) (ending : Ending)
+    → IsEnded words told read_rose steady out_rose err_rose out_old out_new err_old err_new ending
+    → CallEnds words told ending
+call_ends words told rose steady or er oo on eo en ending h = by
+    (ends_as h.found ending or er oo on eo en h.gives)
+  where
+    by : (ending ≡ ending_for h.found) ⊎ ((ending ≡ As status.WriteFault) × (or ⊎ er)) → CallEnds words told ending
+    by (inl e) = subst (CallEnds words told) (sym e) (found_ends words told rose steady h.found h.is)
+    by (inr e) = inr (inl (subst MayStand (sym e.0) tt))
+
+-- what calls for an ending
+abbrev CallView : List (List ℕ) → Option Held → Ending → Type 0
+CallView words told due = ((due ≡ As status.Usage) × SpellsNothing words)
+    ⊎ Commands words (λ command. IsSome told × CommandOwes told command due)
+
+call_view : (words : List (List ℕ)) (told : Option Held) (due : Ending) → Owes words told due
+    → CallView words told due
+call_view words told (As status.Usage) h = inl (refl, h)
+call_view words told (As other) h = inr h
+call_view words told Lost h = inr h
+call_view words told (Absent what) h = inr h
+call_view words told (Unwritable why) h = inr h
+
+-- a source program that is read
+source_file : (told : Option Held) (name : List ℕ) (read : SourceText) → IsSourceText told name read
+    → IsSourceFile told name (Ok read.program)
+source_file None name read h = tt
+source_file (Some held) name read h = (read.bytes.items, h.content, h.compiled.means)
+
+module _ (one : (words : List (List ℕ)) (a b : CommandForm) → Spells words a → Spells words b → a ≡ b)
+    (reading : (text : List ℕ) (a b : Result (List Token) LexError) → Reads text a → Reads text b → a ≡ b)
+    (programs : (text : List ℕ) → GiveOne SameProgram (MeansProgram text) (MeansProgram text))
+    (sources : (text : List ℕ) → GiveOne SameProgram (MeansSource text) (MeansSource text))
+    (initials : (p q : Program) → SameProgram p q → (text : List ℕ)
+    → GiveOne ◌≡◌ (MeansInitial p text) (MeansInitial q text))
+    (reports : (p q : Program) → SameProgram p q → (text : List ℕ)
+    → GiveOne ◌≡◌ (MeansReport p text) (MeansReport q text))
+  where
+    -- a name holds one source program, which has one text
+    one_text : (told : Option Held) (name : List ℕ) → IsSome told → (a b : SourceText) → IsSourceText told name a
+        → IsSourceText told name b → (compiled_lines a ≡ compiled_lines b) × SameProgram a.program b.program
+    one_text None name tells a b h k = absurd (let e = tells in cc)
+    one_text (Some held) name tells a b h k =
+        let bytes : a.bytes.items ≡ b.bytes.items
+        = same_Some a.bytes.items b.bytes.items (sym h.content ∙ k.content) in
+        let tokens : a.tokens.list.items ≡ b.tokens.list.items
+        = same_Ok a.tokens.list.items b.tokens.list.items
+        (reading a.bytes.items (Ok a.tokens.list.items) (Ok b.tokens.list.items) h.compiled.tokens
+        (subst (λ t. Reads t (Ok b.tokens.list.items)) (sym bytes) k.compiled.tokens)) in
+        let program : SameProgram a.program b.program
+        = sources a.bytes.items (Ok a.program) (Ok b.program) h.compiled.means
+        (subst (λ t. MeansSource t (Ok b.program)) (sym bytes) k.compiled.means) in
+        let lines : compiled_lines a ≡ compiled_lines b
+        = ap (λ text. written text a.tokens.list.items (program_of a.program)) bytes
+        ∙ ap (λ list. written b.bytes.items list (program_of a.program)) tokens
+        ∙ ap (λ form. written b.bytes.items b.tokens.list.items form) program in
+        (lines, program)
+
+    module _ (told : Option Held) (tells : IsSome told) where
+      program_files : (name : List ℕ) → GiveOne SameProgram (IsProgramFile told name) (IsProgramFile told name)
+      program_files name a b h k = one_file programs told name tells a b h k
+
+      source_files : (name : List ℕ) → GiveOne SameProgram (IsSourceFile told name) (IsSourceFile told name)
+      source_files name a b h k = one_held SameProgram told name MeansSource MeansSource tells sources a b h k
+
+      initial_files : (name : List ℕ) (p q : Program) → SameProgram p q
+          → GiveOne {A = List StructureForm} ◌≡◌ (IsInitialFile told name p) (IsInitialFile told name q)
+      initial_files name p q same a b h k =
+          one_held ◌≡◌ told name (MeansInitial p) (MeansInitial q) tells (initials p q same) a b h k
+
+      report_files : (name : List ℕ) (p q : Program) → SameProgram p q
+          → GiveOne {A = Analysis} ◌≡◌ (IsReportFile told name p) (IsReportFile told name q)
+      report_files name p q same a b h k =
+          one_held ◌≡◌ told name (MeansReport p) (MeansReport q) tells (reports p q same) a b h k
+
+      spelled_duly : (words : List (List ℕ)) (ending due : Ending)
+          → Commands words (λ command. EndView told command ending)
+          → Commands words (λ command. IsSome told × CommandOwes told command due)
+          → without_place ending ≡ without_place due
+      spelled_duly words ending due h calls =
+          let same = one words h.0 calls.0 h.1 calls.1 in
+          command_duly told program_files source_files initial_files report_files (source_file told)
+          (λ name a b x y. one_text told name tells a b x y) calls.0 ending due
+          (subst (λ c. EndView told c ending) same h.2) (due_view told calls.0 due calls.2.1)
+
+      spelled_within : (words : List (List ℕ)) (ending : Ending)
+          → Commands words (λ command. EndView told command ending)
+          → Commands words (λ command. IsSome told × FilesMeanSuch told command IsWithinLimits) → ¬ AtLimit ending
+      spelled_within words ending h keeps limit =
+          let same = one words h.0 keeps.0 h.1 keeps.1 in
+          limited keeps.0 ending (subst (λ c. EndView told c ending) same h.2) keeps.2.1 limit
+        where
+          limited : (command : CommandForm) (ending : Ending) → EndView told command ending
+              → FilesMeanSuch told command IsWithinLimits → AtLimit ending → ⊥
+          limited command ending (inl (a, e, is)) keeps limit =
+              unlimited a.is_lost (subst AtLimit e limit)
+            where
+              unlimited : (is_lost : Bool) → AtLimit (ending_with is_lost) → ⊥
+              unlimited true limit = limit
+              unlimited false limit = limit
+          limited command ending (inr (inl (r, k, e, is))) keeps limit = subst AtLimit e limit
+          limited command ending (inr (inr (inl (is, h)))) keeps limit =
+              within_limits told program_files source_files initial_files report_files (source_file told)
+              (λ name a b x y. one_text told name tells a b x y) command h keeps
+          limited command ending (inr (inr (inr (inl (what, e, h))))) keeps limit = subst AtLimit e limit
+          limited command ending (inr (inr (inr (inr (why, e, lacking))))) keeps limit = subst AtLimit e limit
+
+    usage_duly : (words : List (List ℕ)) (told : Option Held) (ending due : Ending) → ending ≡ As status.Usage
+        → SpellsNothing words → CallView words told due → without_place ending ≡ without_place due
+    usage_duly words told ending due e none (inl nothing) =
+        alike (As status.Usage) (As status.Usage) ending due e nothing.0 refl
+    usage_duly words told ending due e none (inr calls) = absurd (none calls.0 calls.1)
+
+    called_duly : (words : List (List ℕ)) (told : Option Held) (ending due : Ending) → CallEnds words told ending
+        → CallView words told due → (without_place ending ≡ without_place due) ⊎ MayStand ending
+    called_duly words told ending due (inl (e, none)) view = inl (usage_duly words told ending due e none view)
+    called_duly words told ending due (inr (inl excuse)) view = inr excuse
+    called_duly words told ending due (inr (inr h)) (inl (d, none)) = absurd (none h.0 h.1)
+    called_duly words told ending due (inr (inr h)) (inr calls) =
+        inl (spelled_duly told calls.2.0 words ending due h calls)
+
+    called_within : (words : List (List ℕ)) (told : Option Held) (ending : Ending) → CallEnds words told ending
+        → CallsWithinLimits words told → ¬ AtLimit ending
+    called_within words told ending (inl (e, none)) keeps limit = subst AtLimit e limit
+    called_within words told ending (inr (inl excuse)) keeps limit = unexcused ending excuse limit
+      where
+        unexcused : (ending : Ending) → MayStand ending → AtLimit ending → ⊥
+        unexcused (As status.ReadFault) excuse limit = limit
+        unexcused (As status.WriteFault) excuse limit = limit
+        unexcused (As status.Memory) excuse limit = limit
+        unexcused other excuse limit = excuse
+    called_within words told ending (inr (inr h)) keeps limit =
+        spelled_within told keeps.2.0 words ending h keeps limit
+
+    -- a call that found what is called for, and gave it, ends duly
+    pub ends_duly : (words : List (List ℕ)) (told : Option Held) (read_rose steady out_rose err_rose : Type 0)
+        (out_old out_new err_old err_new : Option (List ℕ)) (ending : Ending)
+        → IsEnded words told read_rose steady out_rose err_rose out_old out_new err_old err_new ending
+        → EndsAsOwed words told ending (MayStand ending)
+    ends_duly words told rose steady or er oo on eo en ending h =
+        let ends = call_ends words told rose steady or er oo on eo en ending h in
+        record {
+          due = λ due calls. called_duly words told ending due ends (call_view words told due calls);
+          within = λ keeps. called_within words told ending ends keeps;
+        }
+
+-- ---- where nothing fails
+
+-- where no count of faults rose, the one excuse is lack of memory
+memory_excuses : (words : List (List ℕ)) (told : Option Held) (rose steady : Type 0) (found : Result Answer Fault)
+    → IsFound words told rose steady found → (¬ rose) → MayStand (ending_for found)
+    → ending_for found ≡ As status.Memory
+memory_excuses words told rose steady (Ok a) h no_read excuse = absurd (unexcused a.is_lost excuse)
+  where
+    unexcused : (is_lost : Bool) → MayStand (ending_with is_lost) → ⊥
+    unexcused true excuse = excuse
+    unexcused false excuse = excuse
+memory_excuses words told rose steady (Err fault.ReadFault) h no_read excuse = absurd (no_read h.2.0)
+memory_excuses words told rose steady (Err fault.Memory) h no_read excuse = refl
+memory_excuses words told rose steady (Err other) h no_read excuse = absurd excuse
+
+pub ends_fully : (words : List (List ℕ)) (told : Option Held) (read_rose steady out_rose err_rose : Type 0)
+    (out_old out_new err_old err_new : Option (List ℕ)) (ending : Ending)
+    → IsEnded words told read_rose steady out_rose err_rose out_old out_new err_old err_new ending
+    → EndsAsOwed words told ending (MayStand ending) → (¬ read_rose) → (¬ out_rose) → (¬ err_rose)
+    → EndsAsOwed words told ending (ending ≡ As status.Memory)
+ends_fully words told rose steady or er oo on eo en ending h exact no_read no_out no_err = record {
+  due = λ due calls. or_memory (exact.due due calls);
+  within = exact.within;
+}
+  where
+    by : MayStand ending → (ending ≡ ending_for h.found) ⊎ ((ending ≡ As status.WriteFault) × (or ⊎ er))
+        → ending ≡ As status.Memory
+    by excuse (inl e) = e ∙ memory_excuses words told rose steady h.found h.is no_read (subst MayStand e excuse)
+    by excuse (inr e) = absurd (⊎_elim no_out no_err e.1)
+
+    or_memory : {P : Type 0} → P ⊎ MayStand ending → P ⊎ (ending ≡ As status.Memory)
+    or_memory (inl same) = inl same
+    or_memory (inr excuse) = inr (by excuse (ends_as h.found ending or er oo on eo en h.gives))

@@ -1,0 +1,157 @@
+-- Which ending the words of a call and what its files hold call for.
+use Rattle.std.specs.Prelude.{ℕ, ◌≡◌, ◌⊎◌, ◌<◌, ◌≤◌, List, Option, Some, IsSome, Ok, Contains, length}
+use Rattle.std.specs.Prelude.{slice_get}
+use Rattle.tv_lex.specs.Gather.{longest_gathered}
+use Rattle.tv_listing.specs.declared.analysis.Analysis.{Analysis}
+use Rattle.tv_losses.specs.Losses.{AreLosses}
+use Rattle.tv_losses.specs.declared.told.Losses.{Losses}
+use Rattle.tv_losses_text.specs.Reports.{AreNone}
+use Rattle.tv_model.specs.Program.{ProgramForm}
+use Rattle.tv_model.specs.declared.program.Mode.{Mode}
+use Rattle.tv_model.specs.declared.program.Program.{Program}
+use Rattle.tv_outside.specs.Told.{Held}
+use Rattle.tv_status.specs.declared.status.Status.TheVariants as status
+use Rattle.tv_structure_form.specs.StructureForm.{StructureForm}
+use Rattle.tv_texts.specs.Agreement.{placeless}
+use Rattle.tv_texts.specs.Files.{IsProgramFile, IsReportFile}
+use Rattle.tv_texts.specs.Meaning.{MeansProgram}
+use Rattle.tv_trail.specs.Reasons.{ListsAt}
+use Rattle.tv_work.specs.Analyzed.{KeepAllBudgets}
+use Rattle.tv_work.specs.Reach.{AreMoreThan, IsReached}
+use Rattle.tv_explain.specs.Answers.{FilesMeanSuch, IsUnwritten, compiled_lines}
+use Rattle.tv_explain.specs.Call.{Commands}
+use Rattle.tv_explain.specs.Meaning.{FilesMean, IsRefused, drawn_form}
+use Rattle.tv_explain.specs.declared.fault.Ending.{Ending}
+use Rattle.tv_explain.specs.declared.fault.Ending.TheVariants.{As, Lost, Absent, NotWritten as Unwritable}
+use Rattle.tv_explain.specs.declared.fault.Sought.{Sought}
+use Rattle.tv_explain.specs.declared.fault.Sought.TheVariants as sought
+use Rattle.tv_explain.specs.declared.fault.Unwritten.TheVariants as unwritten
+use Rattle.tv_explain.specs.declared.inputs.Inputs.{Inputs}
+use Rattle.tv_explain_text.specs.Texts.{messages_at}
+use Rattle.tv_texts.specs.Sources.{IsSourceText}
+use Rattle.tv_texts.specs.declared.source.SourceText.{SourceText}
+use Rattle.tv_explain_words.specs.Words.{AnalyzedForm, CommandForm, Shows, ListsEdges, TellsMessage}
+use Rattle.tv_explain_words.specs.Words.{TellsStructure, TellsLosses, Compiles, SpellsNothing}
+
+-- ---- what an analysis is like
+
+-- not more structures are reached than may be listed, and their steps keep the budgets
+pub record KeepsLimits (p : ProgramForm) (mode : Mode) (initial : List StructureForm) (max : ℕ) : Type 0 where
+  pub few : ¬ AreMoreThan max (IsReached p mode initial)
+  pub budgets : KeepAllBudgets p (IsReached p mode initial)
+
+abbrev pub IsWithinLimits : AnalyzedForm → Inputs → Type 0
+IsWithinLimits of inputs = KeepsLimits (drawn_form inputs) of.mode inputs.initial of.max
+
+-- wherever a node of this name stands, what the analysis lists there is such
+abbrev pub ListsSuch : AnalyzedForm → Inputs → (node : List ℕ) → (List StructureForm → Type 0) → Type 0
+ListsSuch of inputs node AreSuch =
+    (place : ℕ) (structures : List StructureForm) → slice_get (drawn_form inputs).nodes place ≡ Some node
+    → ListsAt (drawn_form inputs) of.mode inputs.initial of.max place structures → AreSuch structures
+
+-- what the analysis loses is such
+abbrev pub LosesSuch : AnalyzedForm → Inputs → (Losses → Type 0) → Type 0
+LosesSuch of inputs AreSuch = (losses : Losses)
+    → AreLosses (drawn_form inputs) of.mode inputs.initial of.max losses → AreSuch losses
+
+-- ---- answers and absences that are called for
+
+-- the program has an edge of this number, whose action has a message of that number
+abbrev pub HasMessage : ProgramForm → (edge number : ℕ) → Type 0
+HasMessage p edge number = (edge < length p.edges) × (number < length (messages_at p edge))
+
+-- the program can be written: its text isn't too long, and means it
+pub record CanBeWritten (source : SourceText) : Type 0 where
+  pub fits : length (compiled_lines source) ≤ longest_gathered
+  pub means : MeansProgram (compiled_lines source) (Ok source.program)
+
+-- nothing stands in the way of an answer that tells of nothing lost
+abbrev pub CanAnswer : Option Held → CommandForm → Type 0
+CanAnswer told (Shows program report) = (p : Program) × IsProgramFile told program (Ok p)
+    × ((a : Analysis) × IsReportFile told report p (Ok a))
+CanAnswer told (ListsEdges program) = (p : Program) × IsProgramFile told program (Ok p)
+CanAnswer told (TellsMessage of edge number) = (inputs : Inputs) × FilesMean told of inputs
+    × IsWithinLimits of inputs × HasMessage (drawn_form inputs) edge number
+CanAnswer told (TellsStructure of node index) = (inputs : Inputs) × FilesMean told of inputs
+    × IsWithinLimits of inputs × Contains (drawn_form inputs).nodes node
+    × ListsSuch of inputs node (λ structures. index < length structures)
+CanAnswer told (TellsLosses of) = (inputs : Inputs) × FilesMean told of inputs
+    × IsWithinLimits of inputs × LosesSuch of inputs AreNone
+CanAnswer told (Compiles source) = (read : SourceText) × IsSourceText told source read × CanBeWritten read
+
+-- it is `losses`, of an analysis that loses something
+abbrev pub LosesSome : Option Held → CommandForm → Type 0
+LosesSome told (TellsLosses of) = (inputs : Inputs) × FilesMean told of inputs
+    × IsWithinLimits of inputs × LosesSuch of inputs (λ losses. ¬ AreNone losses)
+LosesSome told other = ⊥
+
+-- the program has no edge of that number, or the edge's action no such message
+abbrev pub LacksMessage : ProgramForm → (edge number : ℕ) → Sought → Type 0
+LacksMessage p edge number sought.Edge = length p.edges ≤ edge
+LacksMessage p edge number sought.Message =
+    (edge < length p.edges) × (length (messages_at p edge) ≤ number)
+LacksMessage p edge number other = ⊥
+
+-- the program has no node of that name, or what is listed there ends before that place
+abbrev pub LacksStructure : AnalyzedForm → Inputs → (node : List ℕ) → (index : ℕ) → Sought → Type 0
+LacksStructure of inputs node index sought.Node = ¬ Contains (drawn_form inputs).nodes node
+LacksStructure of inputs node index sought.Structure = Contains (drawn_form inputs).nodes node
+    × ListsSuch of inputs node (λ structures. length structures ≤ index)
+LacksStructure of inputs node index other = ⊥
+
+-- what the words name isn't there
+abbrev pub IsAbsent : Option Held → CommandForm → Sought → Type 0
+IsAbsent told (TellsMessage of edge number) what = (inputs : Inputs) × FilesMean told of inputs
+    × IsWithinLimits of inputs × LacksMessage (drawn_form inputs) edge number what
+IsAbsent told (TellsStructure of node index) what = (inputs : Inputs) × FilesMean told of inputs
+    × IsWithinLimits of inputs × LacksStructure of inputs node index what
+IsAbsent told other what = ⊥
+
+-- ---- which ending is due
+
+-- what the files of the command hold calls for this ending
+abbrev pub CommandOwes : Option Held → CommandForm → Ending → Type 0
+CommandOwes told command (As status.Done) = CanAnswer told command
+CommandOwes told command (As (status.FileFault role kind)) = IsRefused told command role kind
+CommandOwes told command (As other) = ⊥
+CommandOwes told command Lost = LosesSome told command
+CommandOwes told command (Absent what) = IsAbsent told command what
+CommandOwes told command (Unwritable why) = IsUnwritten told command why
+
+-- the words, and the files that tell what they hold, call for this ending
+abbrev pub Owes : List (List ℕ) → Option Held → Ending → Type 0
+Owes words told (As status.Usage) = SpellsNothing words
+Owes words told due = Commands words (λ command. IsSome told × CommandOwes told command due)
+
+-- the words spell a command on an analysis that keeps its limits
+abbrev pub CallsWithinLimits : List (List ℕ) → Option Held → Type 0
+CallsWithinLimits words told =
+    Commands words (λ command. IsSome told × FilesMeanSuch told command IsWithinLimits)
+
+-- a limit was passed
+abbrev pub AtLimit : Ending → Type 0
+AtLimit (As (status.Structures max)) = Unit {0}
+AtLimit (As status.TooManySplits) = Unit {0}
+AtLimit (As status.TooManyIndividuals) = Unit {0}
+AtLimit other = ⊥
+
+-- an ending that may stand in the place of any other
+abbrev pub MayStand : Ending → Type 0
+MayStand (As status.ReadFault) = Unit {0}
+MayStand (As status.WriteFault) = Unit {0}
+MayStand (As status.Memory) = Unit {0}
+MayStand other = ⊥
+
+-- the ending, wherever in a file a fault stands, and whatever keeps a program from being written
+abbrev pub without_place : Ending → Ending
+without_place (As (status.FileFault role kind)) = As (status.FileFault role (placeless kind))
+without_place (Unwritable why) = Unwritable unwritten.TooLong
+without_place other = other
+
+-- the call ends as it is called for, or there is such an excuse
+pub record EndsAsOwed (words : List (List ℕ)) (told : Option Held) (ending : Ending)
+    (excuse : Type 0) : Type 0 where
+  -- whatever ending is called for, this is the one, places aside
+  pub due : (due : Ending) → Owes words told due → (without_place ending ≡ without_place due) ⊎ excuse
+  -- and where an analysis keeps its limits, none is told
+  pub within : CallsWithinLimits words told → ¬ AtLimit ending
