@@ -13,7 +13,7 @@ use Rattle.tv_model.specs.declared.program.Message.{Message}
 use Rattle.tv_model.specs.declared.program.Pred.{Pred}
 use Rattle.tv_model.specs.declared.program.Rule.{Rule}
 use Rattle.tv_model.specs.declared.program.Update.{Update}
-use Rattle.tv_compiled.specs.Formulas.{form_text}
+use Rattle.tv_formula_text.specs.Formulas.{form_text}
 use Rattle.tv_compiled.specs.Parts.{message_text, more_text, pred_text, rule_text, update_text}
 use Rattle.tv_compiled.specs.Whole.{edge_text}
 

@@ -1,6 +1,4 @@
 pub mod Compiled
-pub mod Formulas
 pub mod Notes
 pub mod Parts
-pub mod Walks
 pub mod Whole

@@ -5,8 +5,9 @@ use Rattle.std.specs.List.{flat_map}
 use Rattle.tv_model.specs.declared.program.Props.{Props}
 use Rattle.tv_model.specs.Form.{Form}
 use Rattle.tv_model.specs.Program.{PredForm, KindForm, KCore, KDefined, HeadForm, HNever, HAtom, HSame}
-use Rattle.tv_model.specs.Program.{RuleForm, ChangeForm, CFree, CTo, UpdateForm, RetainForm, MessageForm}
-use Rattle.tv_compiled.specs.Formulas.{atom_text, equality_text, form_text, terms_text}
+use Rattle.tv_model.specs.Program.{RuleForm, UpdateForm, RetainForm, MessageForm}
+use Rattle.tv_formula_text.specs.Entries.{update_entry}
+use Rattle.tv_formula_text.specs.Formulas.{atom_text, equality_text, form_text, terms_text}
 
 -- the word where the flag is true
 abbrev pub flag_text : Bool → (word : List ℕ) → List ℕ
@@ -71,13 +72,8 @@ abbrev pub message_text : List PredForm → MessageForm → List ℕ
 message_text preds m = codes "  %message "
     ++ (form_text preds m.cond ++ (codes " -> \"" ++ (m.text ++ codes "\"\n")))
 
-abbrev pub change_text : List PredForm → ChangeForm → List ℕ
-change_text preds CFree = codes "1/2"
-change_text preds (CTo f) = form_text preds f
-
 abbrev pub update_text : List PredForm → UpdateForm → List ℕ
-update_text preds u = codes "    "
-    ++ (atom_text preds u.pred [] u.vars ++ (codes " = " ++ (change_text preds u.change ++ codes "\n")))
+update_text preds u = codes "    " ++ (update_entry preds u ++ codes "\n")
 
 -- a block, where there are updates
 abbrev pub updates_text : List PredForm → List UpdateForm → List ℕ

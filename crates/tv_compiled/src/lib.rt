@@ -4,7 +4,6 @@
 
 mod compiled;
 mod error;
-mod formula;
 mod notes;
 mod parts;
 mod program;

@@ -10,8 +10,8 @@ ghost use Rattle.tv_compiled.specs.Notes.{statement_len, blank_between, further_
 ghost use Rattle.tv_compiled.specs.Notes.{statement_text, note, notes_at, statement_notes, notes_here};
 ghost use Rattle.tv_compiled.specs.Notes.{skip_behind, body_notes, behind_brace, program_notes};
 
-use crate::formula::append_number;
 use std::alloc::{AllocError, Global};
+use tv_formula_text::append_number;
 use tv_lex::{Token, text};
 use tv_model::{Bytes, Items, Names};
 use tv_phrases::is_spelled;

@@ -3,18 +3,16 @@
 ghost use Rattle.std.specs.Prelude.{◌≡◌, ◌++◌, ◌∷◌, [], OnOk, codes, map, not};
 ghost use Rattle.std.specs.List.{flat_map};
 ghost use Rattle.tv_model.specs.Form.{form_of, vars_of};
-ghost use Rattle.tv_model.specs.Program.{change_of, head_of, kind_of, message_of, pre_of, pred_of, retain_of};
+ghost use Rattle.tv_model.specs.Program.{head_of, kind_of, message_of, pre_of, pred_of, retain_of};
 ghost use Rattle.tv_model.specs.Program.{rule_of, update_of, KCore, KDefined};
-ghost use Rattle.tv_compiled.specs.Formulas.{form_text};
+ghost use Rattle.tv_formula_text.specs.Formulas.{form_text};
 ghost use Rattle.tv_compiled.specs.Parts.{flag_text, props_text, first_variables, kind_text, pred_text};
 ghost use Rattle.tv_compiled.specs.Parts.{head_text, rule_text, part_text, pre_text, retain_text, more_text};
-ghost use Rattle.tv_compiled.specs.Parts.{focus_text, message_text, change_text, update_text, updates_text};
+ghost use Rattle.tv_compiled.specs.Parts.{focus_text, message_text, update_text, updates_text};
 
-use crate::formula::{append_atom, append_equality, append_formula, append_terms};
 use std::alloc::AllocError;
-use tv_model::{
-    Change, Formula, Head, Kind, Message, Pred, Props, Retain, Rule, Terms, Update, Var,
-};
+use tv_formula_text::{append_atom, append_entry, append_equality, append_formula, append_terms};
+use tv_model::{Formula, Head, Kind, Message, Pred, Props, Retain, Rule, Terms, Update, Var};
 
 /// Appends the word where the flag is true.
 pub fn append_flag(out: &mut Vec<u8>, flag: bool, word: &[u8]) -> Result<(), AllocError>
@@ -224,24 +222,12 @@ pub fn append_messages(
     Ok(())
 }
 
-fn append_change(out: &mut Vec<u8>, preds: &[Pred], change: &Change) -> Result<(), AllocError>
-    ensures { OnOk result
-        (out.new.items ≡ out.old.items ++ change_text (map pred_of preds.now) (change_of change.now)) }
-{
-    match change {
-        Change::Free => out.extend_from_slice(b"1/2"),
-        Change::To(f) => append_formula(out, preds, f),
-    }
-}
-
 fn append_update(out: &mut Vec<u8>, preds: &[Pred], update: &Update) -> Result<(), AllocError>
     ensures { OnOk result
         (out.new.items ≡ out.old.items ++ update_text (map pred_of preds.now) (update_of update.now)) }
 {
     out.extend_from_slice(b"    ")?;
-    append_atom(out, preds, update.pred, b"", update.vars)?;
-    out.extend_from_slice(b" = ")?;
-    append_change(out, preds, &update.change)?;
+    append_entry(out, preds, update)?;
     out.extend_from_slice(b"\n")
 }
 

@@ -7,12 +7,12 @@ ghost use Rattle.tv_compiled.specs.Parts.{pred_text, rule_text};
 ghost use Rattle.tv_compiled.specs.Whole.{noted, parts_text, action_text, actions_text, node_at, edge_text};
 ghost use Rattle.tv_compiled.specs.Whole.{program_text};
 
-use crate::formula::append_number;
 use crate::parts::{
     append_flag, append_focus, append_messages, append_precondition, append_pred, append_retain,
     append_rule, append_updates,
 };
 use std::alloc::{AllocError, Global};
+use tv_formula_text::append_number;
 use tv_model::{Action, Bytes, Edge, Pred, Program, Rule};
 
 #[tactic(auto, using(crate::proofs::Turns::preds_step, crate::proofs::Turns::preds_done))]

@@ -3,9 +3,11 @@ use Rattle.std.specs.Prelude.{ℕ, List, [], ◌∷◌, ◌++◌, Contains}
 use Rattle.tv_model.specs.Form.{Form, FZero, FOne, FAtom, FIsNew, FSame, FNot, FAnd, FOr, FIff, FCond}
 use Rattle.tv_model.specs.Form.{FExists, FForall, FClosure}
 use Rattle.tv_model.specs.Heap.{Heap}
-use Rattle.tv_model.specs.Program.{RuleForm, HeadForm, HNever, HAtom, HSame}
+use Rattle.tv_model.specs.Program.{RuleForm, HeadForm, HNever, HAtom, HSame, rule_of}
 use Rattle.tv_model.specs.Rules.{head_formula}
 use Rattle.tv_model.specs.Truth.{Assignment, Truth, put}
+use Rattle.tv_concrete.specs.declared.rules.Trial.{Trial}
+use Rattle.tv_concrete.specs.Lists.{heap_of}
 
 -- P holds of the assignment however individuals are put for the variables
 abbrev pub EachPut : Heap → List ℕ → Assignment → (Assignment → Type 0) → Type 0
@@ -15,6 +17,11 @@ EachPut h (v ∷ vars) a P = (u : ℕ) → Contains h.individuals u → EachPut 
 -- the rule is true under the assignment
 abbrev pub RuleTruth : Heap → RuleForm → Assignment → Type 0
 RuleTruth h rule a = Truth h a rule.body → Truth h a (head_formula rule.head)
+
+-- the tried rule is true however individuals are put for the variables
+abbrev pub IsTrueFrom : Trial → List ℕ → Assignment → Type 0
+IsTrueFrom trial vars a =
+    EachPut (heap_of trial.heap.now) vars a (RuleTruth (heap_of trial.heap.now) (rule_of trial.rule.now))
 
 -- the variables of the formula, but for those that are only bound
 abbrev pub variables_in : Form → List ℕ

@@ -7,7 +7,7 @@ ghost use Rattle.tv_model.specs.Truth.{Truth, put};
 ghost use Rattle.tv_model.specs.Program.{head_of, program_of, rule_of};
 ghost use Rattle.tv_model.specs.Rules.{IsFreeInRule, IsInHead, MeetsProgram, MeetsRule, head_formula};
 ghost use Rattle.tv_concrete.specs.Lists.{heap_of, assignment_of};
-ghost use Rattle.tv_concrete.specs.Assignments.{EachPut, RuleTruth, variables_in, head_variables};
+ghost use Rattle.tv_concrete.specs.Assignments.{IsTrueFrom, variables_in, head_variables};
 
 use crate::{HeapList, Values, holds, meets_all_properties};
 use std::alloc::{AllocError, Global};
@@ -41,28 +41,37 @@ fn meets_rule(alloc: Global, heap: &HeapList, rule: &Rule) -> Result<bool, Alloc
     ensures { IfOk result (λ b. IsTrue b ↔ MeetsRule (heap_of heap.now) (rule_of rule.now)) }
 {
     let vars = rule_variables(alloc, rule)?;
-    Ok(meets_for_each(heap, rule, vars.as_slice(), Values::blank()))
+    let trial = Trial { heap, rule };
+    Ok(meets_for_each(&trial, vars.as_slice(), Values::blank()))
+}
+
+/// A rule that is tried in a heap.
+#[derive(Clone, Copy)]
+pub(crate) struct Trial<'a> {
+    heap: &'a HeapList,
+    rule: &'a Rule,
 }
 
 /// Whether the rule is true for each choice of individuals for the variables.
 #[cycle(meets)]
-fn meets_for_each(heap: &HeapList, rule: &Rule, vars: &[u8], values: Values) -> bool
-    ensures { IsTrue result ↔ EachPut (heap_of heap.now) vars.now (assignment_of values)
-        (RuleTruth (heap_of heap.now) (rule_of rule.now)) }
+fn meets_for_each(trial: &Trial<'_>, vars: &[u8], values: Values) -> bool
+    ensures { IsTrue result ↔ IsTrueFrom trial.now vars.now (assignment_of values) }
 {
     match vars {
-        [] => !holds(heap, values, &rule.body) || head_holds(heap, &rule.head, &values),
-        [v, rest @ ..] => meets_for_each_of(heap, rule, Var(*v), rest, values),
+        [] => {
+            !holds(trial.heap, values, &trial.rule.body)
+                || head_holds(trial.heap, &trial.rule.head, &values)
+        }
+        [v, rest @ ..] => meets_for_each_of(trial, Var(*v), rest, values),
     }
 }
 
 #[cycle(meets)]
-fn meets_for_each_of(heap: &HeapList, rule: &Rule, v: Var, rest: &[u8], values: Values) -> bool
-    ensures { IsTrue result ↔ EachPut (heap_of heap.now) (v.0 ∷ rest.now) (assignment_of values)
-        (RuleTruth (heap_of heap.now) (rule_of rule.now)) }
+fn meets_for_each_of(trial: &Trial<'_>, v: Var, rest: &[u8], values: Values) -> bool
+    ensures { IsTrue result ↔ IsTrueFrom trial.now (v.0 ∷ rest.now) (assignment_of values) }
 {
-    for u in heap.individuals.as_slice() {
-        if !meets_with(heap, rule, v, *u, rest, values) {
+    for u in trial.heap.individuals.as_slice() {
+        if !meets_with(trial, v, *u, rest, values) {
             return false;
         }
     }
@@ -70,11 +79,10 @@ fn meets_for_each_of(heap: &HeapList, rule: &Rule, v: Var, rest: &[u8], values: 
 }
 
 #[cycle(meets)]
-fn meets_with(heap: &HeapList, rule: &Rule, v: Var, u: u32, rest: &[u8], values: Values) -> bool
-    ensures { IsTrue result ↔ EachPut (heap_of heap.now) rest.now (put (assignment_of values) v.0 u)
-        (RuleTruth (heap_of heap.now) (rule_of rule.now)) }
+fn meets_with(trial: &Trial<'_>, v: Var, u: u32, rest: &[u8], values: Values) -> bool
+    ensures { IsTrue result ↔ IsTrueFrom trial.now rest.now (put (assignment_of values) v.0 u) }
 {
-    meets_for_each(heap, rule, rest, values.with(v, u))
+    meets_for_each(trial, rest, values.with(v, u))
 }
 
 fn head_holds(heap: &HeapList, head: &Head, values: &Values) -> bool

@@ -1,64 +1,54 @@
 //! Whether an action takes one plain heap to another, through a given middle heap.
 
-ghost use Rattle.std.specs.Prelude.{ℕ, ◌≡◌, ◌↔◌, ◌≤◌, ◌∷◌, [], ◌++◌, List, IsTrue, IfOk, IfSome, Some, All};
-ghost use Rattle.std.specs.Prelude.{Contains, length, map, option_copied, option_map, true};
-ghost use Rattle.tv_model.specs.Form.{form_of, vars_of};
-ghost use Rattle.tv_model.specs.Heap.{Holds, IsTuple};
-ghost use Rattle.tv_model.specs.Program.{KCore, PredForm, action_of, change_of, kind_of, picks_of, pre_of};
-ghost use Rattle.tv_model.specs.Program.{pred_of, program_of, retain_of, update_of, EachPred};
+ghost use Rattle.std.specs.Prelude.{ℕ, ◌≡◌, ◌↔◌, ◌∷◌, [], ◌++◌, IsTrue, IfOk, IfSome, Some, All, Contains};
+ghost use Rattle.std.specs.Prelude.{map, option_copied, option_map, true};
+ghost use Rattle.tv_model.specs.Program.{KCore, EachPred, kind_of, picks_of, pre_of, pred_of, program_of};
+ghost use Rattle.tv_model.specs.Program.{retain_of, update_of};
 ghost use Rattle.tv_model.specs.Rules.{IsHeap};
-ghost use Rattle.tv_model.specs.Step.{AllowsChange, FollowsUpdate, IsMiddle, Keeps, StepsThrough, update_for};
+ghost use Rattle.tv_model.specs.Step.{IsMiddle, update_for};
 ghost use Rattle.tv_model.specs.Truth.{Truth};
 ghost use Rattle.tv_concrete.specs.Lists.{assignment_of, heap_of};
+ghost use Rattle.tv_concrete.specs.Steps.{AllowsIn, CoreFollows, FollowsIn, KeepsIn, StepsBy};
 
-use crate::{HeapList, Tuple, Values, holds, is_concrete, is_heap, put_tuple, same, tuples};
+use crate::{
+    Acting, HeapList, Step, Tuple, Values, holds, is_concrete, is_heap, put_tuple, same, tuples,
+};
 use std::alloc::{AllocError, Global};
-use tv_model::{Action, Change, Formula, Items, Kind, Pred, Program, Retain, Terms, Update, Var};
+use tv_model::{Change, Formula, Items, Kind, Pred, Program, Retain, Update, Var};
 
 /// Whether the action takes the old heap to the new one through the middle one, by the picked
 /// individuals.
 pub fn steps_through(
     alloc: Global,
-    program: &Program,
-    action: &Action,
-    picked: Values,
-    old: &HeapList,
-    middle: &HeapList,
-    new: &HeapList,
+    acting: &Acting<'_>,
+    step: &Step<'_>,
 ) -> Result<bool, AllocError>
-    ensures { IfOk result (λ b. IsTrue b ↔ StepsThrough (program_of program.now) (action_of action.now)
-        (assignment_of picked)
-        (heap_of old.now) (heap_of middle.now) (heap_of new.now)) }
+    ensures { IfOk result (λ b. IsTrue b ↔ StepsBy acting.now step.now) }
 {
-    if !picks_individuals(old, &picked, action.picks.as_slice()) {
+    let action = acting.action;
+    if !picks_individuals(step.old, &step.picked, action.picks.as_slice()) {
         return Ok(false);
     }
-    if !meets_precondition(old, picked, &action.pre) {
+    if !meets_precondition(step.old, step.picked, &action.pre) {
         return Ok(false);
     }
-    if !is_middle(action.fresh, old, middle) {
+    if !is_middle(action.fresh, step.old, step.middle) {
         return Ok(false);
     }
-    if !has_only_kept(picked, &action.retain, middle, new) {
+    if !has_only_kept(step, &action.retain) {
         return Ok(false);
     }
-    if !has_all_kept(picked, &action.retain, middle, new) {
+    if !has_all_kept(step, &action.retain) {
         return Ok(false);
     }
-    if !updates_all(
-        alloc,
-        program.vocab.preds.as_slice(),
-        picked,
-        action.updates.as_slice(),
-        middle,
-        new,
-    )? {
+    let preds = acting.program.vocab.preds.as_slice();
+    if !updates_all(alloc, preds, action.updates.as_slice(), step)? {
         return Ok(false);
     }
-    if !are_heaps(program, old, new) {
+    if !are_heaps(acting.program, step.old, step.new) {
         return Ok(false);
     }
-    is_concrete(alloc, program, new)
+    is_concrete(alloc, acting.program, step.new)
 }
 
 fn are_heaps(program: &Program, old: &HeapList, new: &HeapList) -> bool
@@ -152,60 +142,52 @@ fn same_extents(xs: &Items<Items<Tuple>>, ys: &Items<Items<Tuple>>) -> bool
 }
 
 /// Whether each individual of the new heap is one of the middle heap that is kept.
-fn has_only_kept(picked: Values, retain: &Option<Retain>, middle: &HeapList, new: &HeapList) -> bool
-    ensures { IsTrue result ↔ All (λ u. Contains (heap_of middle.now).individuals u
-        × Keeps (heap_of middle.now) (assignment_of picked) (retain_of retain.now) u)
-        (heap_of new.now).individuals }
+fn has_only_kept(step: &Step<'_>, retain: &Option<Retain>) -> bool
+    ensures { IsTrue result ↔ All (λ u. Contains (heap_of step.now.middle.now).individuals u
+        × KeepsIn step.now (retain_of retain.now) u) (heap_of step.now.new.now).individuals }
 {
-    for u in new.individuals.as_slice() {
-        if !is_kept(picked, retain, middle, *u) {
+    for u in step.new.individuals.as_slice() {
+        if !is_kept(step, retain, *u) {
             return false;
         }
     }
     true
 }
 
-fn is_kept(picked: Values, retain: &Option<Retain>, middle: &HeapList, u: u32) -> bool
-    ensures { IsTrue result ↔ (Contains (heap_of middle.now).individuals u
-        × Keeps (heap_of middle.now) (assignment_of picked) (retain_of retain.now) u) }
+fn is_kept(step: &Step<'_>, retain: &Option<Retain>, u: u32) -> bool
+    ensures { IsTrue result ↔ (Contains (heap_of step.now.middle.now).individuals u
+        × KeepsIn step.now (retain_of retain.now) u) }
 {
-    middle.has(u) && keeps(picked, retain, middle, u)
+    step.middle.has(u) && keeps(step, retain, u)
 }
 
 /// Whether each individual of the middle heap that is kept is one of the new heap.
-fn has_all_kept(picked: Values, retain: &Option<Retain>, middle: &HeapList, new: &HeapList) -> bool
-    ensures { IsTrue result
-        ↔ All (λ u. Keeps (heap_of middle.now) (assignment_of picked) (retain_of retain.now) u
-        → Contains (heap_of new.now).individuals u) (heap_of middle.now).individuals }
+fn has_all_kept(step: &Step<'_>, retain: &Option<Retain>) -> bool
+    ensures { IsTrue result ↔ All (λ u. KeepsIn step.now (retain_of retain.now) u
+        → Contains (heap_of step.now.new.now).individuals u) (heap_of step.now.middle.now).individuals }
 {
-    for u in middle.individuals.as_slice() {
-        if !is_there_if_kept(picked, retain, middle, new, *u) {
+    for u in step.middle.individuals.as_slice() {
+        if !is_there_if_kept(step, retain, *u) {
             return false;
         }
     }
     true
 }
 
-fn is_there_if_kept(
-    picked: Values,
-    retain: &Option<Retain>,
-    middle: &HeapList,
-    new: &HeapList,
-    u: u32,
-) -> bool
-    ensures { IsTrue result ↔ (Keeps (heap_of middle.now) (assignment_of picked) (retain_of retain.now) u
-        → Contains (heap_of new.now).individuals u) }
+fn is_there_if_kept(step: &Step<'_>, retain: &Option<Retain>, u: u32) -> bool
+    ensures { IsTrue result ↔ (KeepsIn step.now (retain_of retain.now) u
+        → Contains (heap_of step.now.new.now).individuals u) }
 {
-    !keeps(picked, retain, middle, u) || new.has(u)
+    !keeps(step, retain, u) || step.new.has(u)
 }
 
 /// Whether the retain formula is true of the individual.
-fn keeps(picked: Values, retain: &Option<Retain>, middle: &HeapList, u: u32) -> bool
-    ensures { IsTrue result ↔ Keeps (heap_of middle.now) (assignment_of picked) (retain_of retain.now) u }
+fn keeps(step: &Step<'_>, retain: &Option<Retain>, u: u32) -> bool
+    ensures { IsTrue result ↔ KeepsIn step.now (retain_of retain.now) u }
 {
     match retain {
         None => true,
-        Some(retain) => holds(middle, picked.with(retain.var, u), &retain.keep),
+        Some(retain) => holds(step.middle, step.picked.with(retain.var, u), &retain.keep),
     }
 }
 
@@ -213,18 +195,14 @@ fn keeps(picked: Values, retain: &Option<Retain>, middle: &HeapList, u: u32) -> 
 fn updates_all(
     alloc: Global,
     preds: &[Pred],
-    picked: Values,
     updates: &[Update],
-    middle: &HeapList,
-    new: &HeapList,
+    step: &Step<'_>,
 ) -> Result<bool, AllocError>
-    ensures { IfOk result (λ b. IsTrue b ↔ EachPred (map pred_of preds.now)
-        (λ q d. d.kind ≡ KCore → (tuple : List ℕ) → IsTuple (heap_of new.now) d.arity tuple
-        → FollowsUpdate q (heap_of middle.now) (assignment_of picked)
-        (update_for q (map update_of updates.now)) tuple (heap_of new.now))) }
+    ensures { IfOk result (λ b. IsTrue b
+        ↔ EachPred (map pred_of preds.now) (CoreFollows step.now (map update_of updates.now))) }
 {
     for (q, pred) in preds.iter().enumerate() {
-        if !updates_one(alloc, q, pred, picked, updates, middle, new)? {
+        if !updates_one(alloc, q, pred, updates, step)? {
             return Ok(false);
         }
     }
@@ -235,21 +213,17 @@ fn updates_one(
     alloc: Global,
     q: usize,
     pred: &Pred,
-    picked: Values,
     updates: &[Update],
-    middle: &HeapList,
-    new: &HeapList,
+    step: &Step<'_>,
 ) -> Result<bool, AllocError>
-    ensures { IfOk result (λ b. IsTrue b ↔ (kind_of pred.now.kind ≡ KCore → (tuple : List ℕ)
-        → IsTuple (heap_of new.now) pred.now.arity tuple
-        → FollowsUpdate q (heap_of middle.now) (assignment_of picked)
-        (update_for q (map update_of updates.now)) tuple (heap_of new.now))) }
+    ensures { IfOk result
+        (λ b. IsTrue b ↔ CoreFollows step.now (map update_of updates.now) q (pred_of pred.now)) }
 {
     if !is_core(&pred.kind) {
         return Ok(true);
     }
-    let all = tuples(alloc, new.individuals.as_slice(), pred.arity)?;
-    Ok(follows_update_at_all(q, picked, updates, middle, new, all.as_slice()))
+    let all = tuples(alloc, step.new.individuals.as_slice(), pred.arity)?;
+    Ok(follows_update_at_all(q, updates, step, all.as_slice()))
 }
 
 /// Whether the predicate has no definition.
@@ -262,19 +236,11 @@ pub(crate) fn is_core(kind: &Kind) -> bool
     }
 }
 
-fn follows_update_at_all(
-    q: usize,
-    picked: Values,
-    updates: &[Update],
-    middle: &HeapList,
-    new: &HeapList,
-    all: &[Tuple],
-) -> bool
-    ensures { IsTrue result ↔ All (λ tuple. FollowsUpdate q (heap_of middle.now) (assignment_of picked)
-        (update_for q (map update_of updates.now)) tuple (heap_of new.now)) all.now }
+fn follows_update_at_all(q: usize, updates: &[Update], step: &Step<'_>, all: &[Tuple]) -> bool
+    ensures { IsTrue result ↔ All (FollowsIn step.now q (map update_of updates.now)) all.now }
 {
     for tuple in all {
-        if !follows_update(q, picked, updates, middle, new, tuple) {
+        if !follows_update(q, updates, step, tuple) {
             return false;
         }
     }
@@ -282,20 +248,14 @@ fn follows_update_at_all(
 }
 
 /// Whether the predicate holds of the tuple in the new heap as its update says, or else as before.
-fn follows_update(
-    q: usize,
-    picked: Values,
-    updates: &[Update],
-    middle: &HeapList,
-    new: &HeapList,
-    tuple: &Tuple,
-) -> bool
-    ensures { IsTrue result ↔ FollowsUpdate q (heap_of middle.now) (assignment_of picked)
-        (update_for q (map update_of updates.now)) tuple.now (heap_of new.now) }
+fn follows_update(q: usize, updates: &[Update], step: &Step<'_>, tuple: &Tuple) -> bool
+    ensures { IsTrue result ↔ FollowsIn step.now q (map update_of updates.now) tuple.now }
 {
     match find_update(q, updates) {
-        None => new.holds_of(q, tuple.as_slice()) == middle.holds_of(q, tuple.as_slice()),
-        Some(update) => allows_change(q, picked, &update.vars, &update.change, middle, new, tuple),
+        None => {
+            step.new.holds_of(q, tuple.as_slice()) == step.middle.holds_of(q, tuple.as_slice())
+        }
+        Some(update) => allows_change(q, update, step, tuple),
     }
 }
 
@@ -311,24 +271,16 @@ pub fn find_update(q: usize, updates: &[Update]) -> Option<&Update>
     None
 }
 
-/// Whether the predicate holds of the tuple in the new heap as the change says.
-pub fn allows_change(
-    q: usize,
-    picked: Values,
-    vars: &Terms,
-    change: &Change,
-    middle: &HeapList,
-    new: &HeapList,
-    tuple: &Tuple,
-) -> bool
-    ensures { IsTrue result ↔ AllowsChange (heap_of middle.now) (assignment_of picked) (vars_of vars.now)
-        (change_of change.now) tuple.now (Holds (heap_of new.now) q tuple.now) }
+/// Whether the predicate holds of the tuple in the new heap as the update says.
+pub fn allows_change(q: usize, update: &Update, step: &Step<'_>, tuple: &Tuple) -> bool
+    ensures { IsTrue result ↔ AllowsIn step.now q (update_of update.now) tuple.now }
 {
-    match change {
+    match &update.change {
         Change::Free => true,
         Change::To(f) => {
             let tuple = tuple.as_slice();
-            new.holds_of(q, tuple) == holds(middle, put_tuple(picked, vars, tuple), f)
+            let values = put_tuple(step.picked, &update.vars, tuple);
+            step.new.holds_of(q, tuple) == holds(step.middle, values, f)
         }
     }
 }

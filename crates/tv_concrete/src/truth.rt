@@ -2,12 +2,22 @@
 
 ghost use Rattle.std.specs.Prelude.{ℕ, ◌≡◌, ◌↔◌, IsTrue, Contains};
 ghost use Rattle.tv_model.specs.Form.{form_of};
-ghost use Rattle.tv_model.specs.Truth.{Truth, put, ClosureEdge};
+ghost use Rattle.tv_model.specs.Truth.{Truth, put};
 ghost use Rattle.tv_concrete.specs.Lists.{heap_of, assignment_of};
-ghost use Rattle.tv_concrete.specs.Reach.{Reaches};
+ghost use Rattle.tv_concrete.specs.Reach.{Connects, Reaches};
 
 use crate::{HeapList, Values};
 use tv_model::{Formula, Var};
+
+/// The edges of a closure in a heap: the body, with individuals put for `left` and `right`.
+#[derive(Clone, Copy)]
+pub(crate) struct Edges<'a> {
+    heap: &'a HeapList,
+    values: Values,
+    left: Var,
+    right: Var,
+    body: &'a Formula,
+}
 
 /// Whether the formula is true in the heap under the values. Takes no memory, and time that grows
 /// fast with the heap.
@@ -41,17 +51,15 @@ pub fn holds(heap: &HeapList, values: Values, f: &Formula) -> bool
             right,
             body,
         } => {
-            let allowed = heap.individuals.as_slice();
-            reaches(
+            let edges = Edges {
                 heap,
                 values,
-                *left,
-                *right,
+                left: *left,
+                right: *right,
                 body,
-                allowed,
-                values.at(*from),
-                values.at(*to),
-            )
+            };
+            let allowed = heap.individuals.as_slice();
+            reaches(&edges, allowed, values.at(*from), values.at(*to))
         }
     }
 }
@@ -92,45 +100,28 @@ fn holds_of_all(heap: &HeapList, values: Values, v: Var, body: &Formula) -> bool
     true
 }
 
-/// Whether `u` and `w` are individuals that make the body true, put for `left` and `right`.
+/// Whether `u` and `w` are individuals that make the body true.
 #[cycle(holds)]
-fn is_edge(
-    heap: &HeapList,
-    values: Values,
-    left: Var,
-    right: Var,
-    body: &Formula,
-    u: u32,
-    w: u32,
-) -> bool
-    ensures { IsTrue result ↔ ClosureEdge (heap_of heap.now) (assignment_of values) left.0 right.0
-        (form_of body.now) u w }
+fn is_edge(edges: &Edges<'_>, u: u32, w: u32) -> bool
+    ensures { IsTrue result ↔ Connects edges.now u w }
 {
-    heap.has(u) && heap.has(w) && holds_with(heap, values.with(left, u), right, w, body)
+    let values = edges.values.with(edges.left, u);
+    edges.heap.has(u)
+        && edges.heap.has(w)
+        && holds_with(edges.heap, values, edges.right, w, edges.body)
 }
 
 /// Whether a walk leads from `u` to `w` whose stops are allowed: past the first of these, or to it and
 /// on from it.
 #[cycle(holds)]
-fn reaches(
-    heap: &HeapList,
-    values: Values,
-    left: Var,
-    right: Var,
-    body: &Formula,
-    allowed: &[u32],
-    u: u32,
-    w: u32,
-) -> bool
-    ensures { IsTrue result ↔ Reaches (ClosureEdge (heap_of heap.now) (assignment_of values) left.0 right.0
-        (form_of body.now)) allowed.now u w }
+fn reaches(edges: &Edges<'_>, allowed: &[u32], u: u32, w: u32) -> bool
+    ensures { IsTrue result ↔ Reaches (Connects edges.now) allowed.now u w }
 {
     match allowed {
-        [] => is_edge(heap, values, left, right, body, u, w),
+        [] => is_edge(edges, u, w),
         [stop, fewer @ ..] => {
-            reaches(heap, values, left, right, body, fewer, u, w)
-                || (reaches(heap, values, left, right, body, fewer, u, *stop)
-                    && reaches(heap, values, left, right, body, fewer, *stop, w))
+            reaches(edges, fewer, u, w)
+                || (reaches(edges, fewer, u, *stop) && reaches(edges, fewer, *stop, w))
         }
     }
 }

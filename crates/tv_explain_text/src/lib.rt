@@ -7,5 +7,5 @@ mod shown;
 mod trails;
 
 pub use edges::{edges_text, messages_at};
-pub use shown::shown_text;
+pub use shown::{append_node_line, shown_text};
 pub use trails::{Told, raised_text, trail_text};

@@ -54,7 +54,7 @@ fn append_structures(
 }
 
 /// Appends the line of a node that has so many structures.
-fn append_node_line(out: &mut Vec<u8>, name: &[u8], count: usize) -> Result<(), AllocError>
+pub fn append_node_line(out: &mut Vec<u8>, name: &[u8], count: usize) -> Result<(), AllocError>
     ensures { OnOk result (out.new.items ≡ out.old.items ++ node_line name.now count) }
 {
     out.extend_from_slice(b"node ")?;

@@ -1,69 +1,64 @@
 //! Whether a pair of heaps is a fair step of an action.
 #![tactic(auto)]
 
-ghost use Rattle.std.specs.Prelude.{ℕ, ◌≡◌, ◌≢◌, ◌↔◌, ◌≤◌, ◌∷◌, [], ◌++◌, IsTrue, IfOk, Contains, Some};
-ghost use Rattle.std.specs.Prelude.{length, map, true};
-ghost use Rattle.tv_model.specs.Heap.{Heap};
-ghost use Rattle.tv_model.specs.Program.{action_of, program_of};
-ghost use Rattle.tv_model.specs.Step.{FairlySteps, with_new, IsFairThrough};
-ghost use Rattle.tv_concrete.specs.Lists.{assignment_of, heap_of};
-ghost use Rattle.tv_fair.specs.Candidates.{Suffice};
+mod ends;
 
+ghost use Rattle.std.specs.Prelude.{ℕ, ◌≡◌, ◌↔◌, ◌∷◌, [], ◌++◌, IsTrue, IfOk, Contains, Some};
+ghost use Rattle.tv_model.specs.Program.{action_of, program_of};
+ghost use Rattle.tv_model.specs.Step.{FairlySteps, with_new};
+ghost use Rattle.tv_concrete.specs.Lists.{assignment_of, heap_of};
+ghost use Rattle.tv_fair.specs.Candidates.{IsFairOver, Suffice};
+
+pub use ends::Ends;
 use std::alloc::{AllocError, Global};
-use tv_concrete::{HeapList, Tuple, Values, is_fair_through};
-use tv_model::{Action, Items, Mode, Program, Var};
+use tv_concrete::{Acting, HeapList, Step, Tuple, Values, is_fair_through};
+use tv_model::{Items, Var};
 
 /// Whether the action takes the old heap to the new one by the picked individuals in a fair step, through
 /// some middle heap. The error is lack of memory, or that every `u32` is taken already where an action
 /// needs a further individual.
-pub fn fairly_steps(
-    alloc: Global,
-    program: &Program,
-    mode: Mode,
-    action: &Action,
-    picked: Values,
-    old: &HeapList,
-    new: &HeapList,
-) -> Result<bool, AllocError>
-    requires { length program.now.vocab.preds ≤ 512 }
-    ensures { IfOk result (λ b. IsTrue b ↔ FairlySteps (program_of program.now) mode (action_of action.now)
-        (assignment_of picked)
-        (heap_of old.now) (heap_of new.now)) }
+pub fn fairly_steps(alloc: Global, acting: &Acting<'_>, ends: &Ends<'_>) -> Result<bool, AllocError>
+    ensures { IfOk result (λ b. IsTrue b
+        ↔ FairlySteps (program_of acting.now.program.now) acting.now.mode (action_of acting.now.action.now)
+        (assignment_of ends.now.picked) (heap_of ends.now.old.now) (heap_of ends.now.new.now)) }
 {
-    if !action.fresh {
-        return is_fair_through(alloc, program, mode, action, picked, old, old, new);
+    if !acting.action.fresh {
+        return is_fair_over(alloc, acting, ends, ends.old);
     }
-    let candidates = candidates(alloc, picked, old, new)?;
-    fits_some(
-        alloc,
-        program,
-        mode,
-        action,
-        picked,
-        old,
-        new,
-        candidates.as_slice(),
-    )
+    let candidates = candidates(alloc, ends)?;
+    fits_some(alloc, acting, ends, candidates.as_slice())
+}
+
+/// Whether the step is fair through the middle heap.
+fn is_fair_over(
+    alloc: Global,
+    acting: &Acting<'_>,
+    ends: &Ends<'_>,
+    middle: &HeapList,
+) -> Result<bool, AllocError>
+    ensures { IfOk result (λ b. IsTrue b ↔ IsFairOver acting.now ends.now (heap_of middle.now)) }
+{
+    let step = Step {
+        picked: ends.picked,
+        old: ends.old,
+        middle,
+        new: ends.new,
+    };
+    is_fair_through(alloc, acting, &step)
 }
 
 /// Whether some of the candidates, as the further individual, makes the step fair.
 fn fits_some(
     alloc: Global,
-    program: &Program,
-    mode: Mode,
-    action: &Action,
-    picked: Values,
-    old: &HeapList,
-    new: &HeapList,
+    acting: &Acting<'_>,
+    ends: &Ends<'_>,
     candidates: &[u32],
 ) -> Result<bool, AllocError>
-    requires { length program.now.vocab.preds ≤ 512 }
     ensures { IfOk result (λ b. IsTrue b ↔ ((u : ℕ) × Contains candidates.now u
-        × IsFairThrough (program_of program.now) mode (action_of action.now)
-        (assignment_of picked) (heap_of old.now) (with_new (heap_of old.now) u) (heap_of new.now))) }
+        × IsFairOver acting.now ends.now (with_new (heap_of ends.now.old.now) u))) }
 {
     for u in candidates {
-        if fits(alloc, program, mode, action, picked, old, new, *u)? {
+        if fits(alloc, acting, ends, *u)? {
             return Ok(true);
         }
     }
@@ -71,22 +66,12 @@ fn fits_some(
 }
 
 /// Whether `u`, as the further individual, makes the step fair.
-fn fits(
-    alloc: Global,
-    program: &Program,
-    mode: Mode,
-    action: &Action,
-    picked: Values,
-    old: &HeapList,
-    new: &HeapList,
-    u: u32,
-) -> Result<bool, AllocError>
-    requires { length program.now.vocab.preds ≤ 512 }
-    ensures { IfOk result (λ b. IsTrue b ↔ IsFairThrough (program_of program.now) mode (action_of action.now)
-        (assignment_of picked) (heap_of old.now) (with_new (heap_of old.now) u) (heap_of new.now)) }
+fn fits(alloc: Global, acting: &Acting<'_>, ends: &Ends<'_>, u: u32) -> Result<bool, AllocError>
+    ensures { IfOk result
+        (λ b. IsTrue b ↔ IsFairOver acting.now ends.now (with_new (heap_of ends.now.old.now) u)) }
 {
-    let middle = with_further(alloc, old, u)?;
-    is_fair_through(alloc, program, mode, action, picked, old, &middle, new)
+    let middle = with_further(alloc, ends.old, u)?;
+    is_fair_over(alloc, acting, ends, &middle)
 }
 
 /// The heap with the further individual `u`, which is marked.
@@ -141,18 +126,13 @@ fn copy_tuple(alloc: Global, tuple: &[u32]) -> Result<Tuple, AllocError>
 
 /// Numbers of which one makes a step fair as the further individual, if any number does: all that stand
 /// somewhere, and one that stands nowhere.
-fn candidates(
-    alloc: Global,
-    picked: Values,
-    old: &HeapList,
-    new: &HeapList,
-) -> Result<Vec<u32>, AllocError>
-    ensures { IfOk result
-        (λ us. Suffice us.items (heap_of old.now) (heap_of new.now) (assignment_of picked)) }
+fn candidates(alloc: Global, ends: &Ends<'_>) -> Result<Vec<u32>, AllocError>
+    ensures { IfOk result (λ us. Suffice us.items (heap_of ends.now.old.now) (heap_of ends.now.new.now)
+        (assignment_of ends.now.picked)) }
 {
-    let mut all = picked_values(alloc, picked)?;
-    all.extend_from_slice(old.individuals.as_slice())?;
-    all.extend_from_slice(new.individuals.as_slice())?;
+    let mut all = picked_values(alloc, ends.picked)?;
+    all.extend_from_slice(ends.old.individuals.as_slice())?;
+    all.extend_from_slice(ends.new.individuals.as_slice())?;
     let further = unused(all.as_slice())?;
     all.push(further)?;
     Ok(all)

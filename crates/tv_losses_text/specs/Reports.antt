@@ -1,14 +1,25 @@
 -- What is said of losses, and whether there are any.
-use Rattle.std.specs.Prelude.{ℕ, ◌≡◌, ◌↔◌, List, [], Option, IsTrue}
+use Rattle.std.specs.Prelude.{ℕ, ◌≡◌, ◌↔◌, List, [], Option, Some, IsTrue, slice_get}
+use Rattle.std.specs.List.{AllZip}
 use Rattle.tv_model.specs.declared.program.Mode.{Mode}
 use Rattle.tv_model.specs.Program.{ProgramForm}
 use Rattle.tv_structure_form.specs.StructureForm.{StructureForm}
 use Rattle.tv_losses.specs.Losses.{AreLosses}
 use Rattle.tv_losses.specs.declared.told.Losses.{Losses}
-use Rattle.tv_losses_unmet.specs.Unmet.{AreFound}
+use Rattle.tv_losses_unmet.specs.Unmet.{IsFound}
 use Rattle.tv_losses_unmet.specs.declared.claim.Claim.{Claim}
 use Rattle.tv_losses_text.specs.Texts.{losses_text}
 use Rattle.tv_losses_text.specs.declared.report.LossReport.{LossReport}
+
+-- what is found is of the structure of this number
+abbrev pub IsFoundOf : ProgramForm → (structures : List StructureForm) → (number : ℕ) → Option Claim → Type 0
+IsFoundOf p structures number found =
+    (s : StructureForm) → slice_get structures number ≡ Some s → IsFound p s found
+
+-- and for each of the numbers, in order
+abbrev pub AreFound : ProgramForm → (structures : List StructureForm) → (numbers : List ℕ)
+    → List (Option Claim) → Type 0
+AreFound p structures numbers found = AllZip (IsFoundOf p structures) numbers found
 
 -- nothing is lost
 pub record AreNone (losses : Losses) : Type 0 where

@@ -1,6 +1,7 @@
 //! The text of losses.
 #![tactic(auto)]
 
+mod claims;
 mod lines;
 mod report;
 

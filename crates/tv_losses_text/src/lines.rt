@@ -1,105 +1,34 @@
 //! Losses, each in one line.
 
-ghost use Rattle.std.specs.Prelude.{◌≡◌, ◌++◌, ◌+◌, ◌<◌, IfOk, OnOk, Some, codes, length, slice_get};
-ghost use Rattle.tv_file_lines.specs.Numbered.{numbered};
+ghost use Rattle.std.specs.Prelude.{◌≡◌, ◌++◌, ◌<◌, IfOk, OnOk, Some, length, slice_get};
 ghost use Rattle.tv_model.specs.Program.{program_of};
 ghost use Rattle.tv_model.specs.Valid.{IsValid};
 ghost use Rattle.tv_losses_text.specs.Texts.{edge_loss, edge_losses, initial_loss, initial_losses};
 ghost use Rattle.tv_losses_text.specs.Texts.{losses_text, lost_lines, node_loss, node_losses};
-ghost use Rattle.tv_losses_text.specs.Texts.{claim_in, claim_written, declaration_written};
-ghost use Rattle.tv_losses_text.specs.Texts.{head_line, name_of_pred, name_written};
-ghost use Rattle.tv_losses_text.specs.Counted.{IsCounted};
+ghost use Rattle.tv_losses_text.specs.Texts.{claim_in};
+ghost use Rattle.tv_losses_text.specs.Texts.{head_line, name_written};
 
-use itoa::Buffer;
 use std::alloc::{AllocError, Global};
+use tv_claim_text::ClaimNames;
 use tv_edge_heads::head_at;
 use tv_file_lines::append_numbered;
 use tv_losses::{EdgeLoss, Losses};
 use tv_losses_unmet::Claim;
-use tv_model::{Bytes, Names, PredId, Program};
-use tv_replay_judge::property_rules;
-
-/// A program, and how many rules its properties stand for.
-#[derive(Clone, Copy)]
-struct Declared<'a> {
-    program: &'a Program,
-    properties: usize,
-}
-
-/// The program with its count.
-fn counted<'a>(alloc: Global, program: &'a Program) -> Result<Declared<'a>, AllocError>
-    requires { IsValid (program_of program.now) }
-    ensures program { IfOk result (λ of. of.program.now ≡ program.now) }
-    ensures count { IfOk result IsCounted }
-{
-    let properties = property_rules(alloc, program.vocab.preds.as_slice())?;
-    Ok(Declared {
-        program,
-        properties: properties.len(),
-    })
-}
-
-/// Appends the name of the predicate.
-fn append_pred(out: &mut Vec<u8>, program: &Program, p: PredId) -> Result<(), AllocError>
-    ensures { OnOk result (out.new.items
-        ≡ out.old.items ++ name_of_pred (slice_get (program_of program.now).preds p.0)) }
-{
-    match program.vocab.preds.as_slice().get(p.0 as usize) {
-        None => Ok(()),
-        Some(pred) => out.extend_from_slice(pred.name.as_slice()),
-    }
-}
-
-/// Appends that it is what is declared of the predicate.
-fn append_declaration(out: &mut Vec<u8>, program: &Program, p: PredId) -> Result<(), AllocError>
-    ensures { OnOk result
-        (out.new.items ≡ out.old.items ++ declaration_written (program_of program.now) p.0) }
-{
-    out.extend_from_slice(b"the declaration of ")?;
-    append_pred(out, program, p)
-}
-
-/// Appends a declared rule, by its number behind so many rules of properties.
-fn append_rule(out: &mut Vec<u8>, properties: usize, declared: usize) -> Result<(), AllocError>
-    ensures { OnOk result
-        (out.new.items ≡ out.old.items ++ numbered (codes "rule ") (properties + declared)) }
-{
-    let mut digits = Buffer::new();
-    out.extend_from_slice(b"rule ")?;
-    out.extend_from_slice(
-        digits
-            .format(properties as u128 + declared as u128)
-            .as_bytes(),
-    )
-}
-
-/// Appends which declaration it is.
-fn append_claim(out: &mut Vec<u8>, of: &Declared, claim: Option<Claim>) -> Result<(), AllocError>
-    requires { IsCounted of.now }
-    ensures { OnOk result
-        (out.new.items ≡ out.old.items ++ claim_written (program_of of.now.program.now) claim) }
-{
-    match claim {
-        None => out.extend_from_slice(b"declarations together"),
-        Some(Claim::Rule(number)) => append_rule(out, of.properties, number),
-        Some(Claim::Predicate(p)) => append_declaration(out, of.program, p),
-    }
-}
+use tv_model::{Bytes, Names, Program};
 
 /// Appends that the initial structure of this number has no opening, and which declaration it contradicts.
 fn append_initial(
     out: &mut Vec<u8>,
-    of: &Declared,
+    of: &ClaimNames<'_>,
     number: usize,
     claim: Option<Claim>,
 ) -> Result<(), AllocError>
-    requires { IsCounted of.now }
     ensures { OnOk result
-        (out.new.items ≡ out.old.items ++ initial_loss (program_of of.now.program.now) number claim) }
+        (out.new.items ≡ out.old.items ++ initial_loss (program_of of.now) number claim) }
 {
     append_numbered(out, b"initial ", number)?;
     out.extend_from_slice(b" has no opening, by ")?;
-    append_claim(out, of, claim)?;
+    of.append(out, claim)?;
     out.extend_from_slice(b"\n")
 }
 
@@ -114,7 +43,7 @@ fn claim_at(claims: &[Option<Claim>], place: usize) -> Option<Claim>
 }
 
 /// The number in this place.
-fn number_at(numbers: &[usize], place: usize) -> usize
+pub(crate) fn number_at(numbers: &[usize], place: usize) -> usize
     requires { place < length numbers.now }
     ensures { slice_get numbers.now place ≡ Some result }
 {
@@ -124,13 +53,12 @@ fn number_at(numbers: &[usize], place: usize) -> usize
 /// Appends the same of each, with the claim in its place.
 fn append_initials(
     out: &mut Vec<u8>,
-    of: &Declared,
+    of: &ClaimNames<'_>,
     claims: &[Option<Claim>],
     numbers: &[usize],
 ) -> Result<(), AllocError>
-    requires { IsCounted of.now }
     ensures { OnOk result (out.new.items
-        ≡ out.old.items ++ initial_losses (program_of of.now.program.now) claims.now 0 numbers.now) }
+        ≡ out.old.items ++ initial_losses (program_of of.now) claims.now 0 numbers.now) }
 {
     for place in 0..numbers.len() {
         let number = number_at(numbers, place);
@@ -202,17 +130,16 @@ fn append_edges(out: &mut Vec<u8>, heads: &[Bytes], losses: &[EdgeLoss]) -> Resu
 /// Appends a line for each loss.
 fn append_losses(
     out: &mut Vec<u8>,
-    of: &Declared,
+    of: &ClaimNames<'_>,
     heads: &[Bytes],
     claims: &[Option<Claim>],
     losses: &Losses,
 ) -> Result<(), AllocError>
-    requires { IsCounted of.now }
     ensures { OnOk result (out.new.items
-        ≡ out.old.items ++ lost_lines (program_of of.now.program.now) heads.now claims.now losses.now) }
+        ≡ out.old.items ++ lost_lines (program_of of.now) heads.now claims.now losses.now) }
 {
     append_initials(out, of, claims, losses.initial.as_slice())?;
-    append_nodes(out, &of.program.nodes, losses.nodes.as_slice())?;
+    append_nodes(out, &of.program().nodes, losses.nodes.as_slice())?;
     append_edges(out, heads, losses.edges.as_slice())
 }
 
@@ -241,7 +168,7 @@ pub(crate) fn losses_text(
         out.extend_from_slice(b"nothing is lost\n")?;
         return Ok(out);
     }
-    let of = counted(alloc, program)?;
+    let of = ClaimNames::new(alloc, program)?;
     append_losses(&mut out, &of, heads, claims, losses)?;
     Ok(out)
 }

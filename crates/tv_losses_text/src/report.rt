@@ -8,10 +8,11 @@ ghost use Rattle.tv_work.specs.Analyzed.{IsWorkCause};
 ghost use Rattle.tv_work.specs.Reach.{IsReached};
 ghost use Rattle.tv_losses_text.specs.Reports.{IsLossReport};
 
+use crate::claims::first_claims;
 use crate::lines::losses_text;
 use std::alloc::Global;
 use tv_losses::losses;
-use tv_losses_unmet::first_unmet_each;
+use tv_losses_unmet::Declared;
 use tv_model::{Bytes, Mode, Program};
 use tv_struct::Structures;
 use tv_work::WorkError;
@@ -44,7 +45,13 @@ pub fn explain_losses(
         (IsReached (program_of program.now) mode initial.now)) }
 {
     let found = losses(alloc, program, initial, mode, max)?;
-    let claims = first_unmet_each(alloc, program, initial.as_slice(), found.initial.as_slice())?;
+    let mut declared = Declared::new(alloc, program)?;
+    let claims = first_claims(
+        alloc,
+        &mut declared,
+        initial.as_slice(),
+        found.initial.as_slice(),
+    )?;
     let text = losses_text(alloc, program, heads, claims.as_slice(), &found)?;
     Ok(LossReport {
         text,

@@ -101,6 +101,7 @@ one-of p q (suc j) (d ∷ preds) is =
 
 pub base-alone : (claim : Claim) (p : ProgramForm) → base_rules (alone claim p) ≡ rules_of_claim p claim
 base-alone (Predicate q) p =
-    ap (λ rules. rules ++ []) (one-of q 0 q.0 p.preds (omega arith)) ∙ append-nil (rules_of_pred q.0 (slice_get p.preds q.0))
+    ap (λ rules. rules ++ []) (one-of q 0 q.0 p.preds (omega arith))
+    ∙ append-nil (rules_of_pred q.0 (slice_get p.preds q.0))
 base-alone (Rule number) p =
     ap (λ rules. rules ++ listed (slice_get p.rules number)) (none-of (Rule number) 0 p.preds (λ k le. refl))

@@ -66,7 +66,7 @@ of-rule : (P : RuleForm → Type 0) (rule : Option RuleForm) → ((r : RuleForm)
 of-rule P None is = All-nil P
 of-rule P (Some rule) is = All-cons P rule [] (is rule refl) (All-nil P)
 
-of-claim : (P : RuleForm → Type 0) (p : ProgramForm) (claim : Claim) → All P (base_rules p)
+pub of-claim : (P : RuleForm → Type 0) (p : ProgramForm) (claim : Claim) → All P (base_rules p)
     → All P (rules_of_claim p claim)
 of-claim P p (Predicate q) all =
     of-pred P q.0 0 q.0 p.preds (omega arith) (All-first P (rules_from 0 p.preds) p.rules all)

@@ -1,5 +1,5 @@
 mod Claims
-mod Closing
+pub mod Closing
 mod First
-mod Each
+mod Kept
 mod Validity

@@ -1,3 +1,3 @@
 pub mod Unmet
 pub mod Alone
-pub mod Tried
+pub mod Kept

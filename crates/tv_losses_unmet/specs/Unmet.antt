@@ -1,6 +1,5 @@
 -- Which declaration alone leaves no stable structure below a structure.
-use Rattle.std.specs.Prelude.{ℕ, ◌≡◌, ◌<◌, List, [], ◌∷◌, map, Option, None, Some, slice_get}
-use Rattle.std.specs.List.{AllZip}
+use Rattle.std.specs.Prelude.{ℕ, ◌<◌, List, [], ◌∷◌, map, Option, None, Some, All, slice_get}
 use Rattle.tv_model.specs.Program.{ProgramForm, PredForm, RuleForm}
 use Rattle.tv_rules.specs.Closing.{closed_rules, closed_set, dropped_rule, pred_rules}
 use Rattle.tv_stable_laws.specs.Stable.{HasNoStable}
@@ -36,32 +35,22 @@ IsBefore (Predicate q) (Rule number) = Unit {0}
 IsBefore (Rule number) (Predicate q) = ⊥
 IsBefore (Rule number) (Rule other) = number < other
 
--- the structure contradicts none of the declarations before this one
-abbrev pub MeetsBefore : ProgramForm → StructureForm → Claim → Type 0
-MeetsBefore p s claim = (other : Claim) → IsBefore other claim → ¬ IsUnmet p s other
+-- it is so of none of the declarations before this one
+abbrev pub IsSoOfNoneBefore : (Claim → Type 0) → Claim → Type 0
+IsSoOfNoneBefore P claim = (other : Claim) → IsBefore other claim → ¬ P other
 
--- it is the first declaration that the structure contradicts
-abbrev pub IsFirstUnmet : ProgramForm → StructureForm → Claim → Type 0
-IsFirstUnmet p s claim = IsUnmet p s claim × MeetsBefore p s claim
+-- what is found is the first declaration of which it is so, or none where it is so of none
+abbrev pub IsFirstOf : (Claim → Type 0) → Option Claim → Type 0
+IsFirstOf P None = (claim : Claim) → ¬ P claim
+IsFirstOf P (Some claim) = P claim × IsSoOfNoneBefore P claim
 
--- it contradicts none alone
-abbrev pub MeetsEach : ProgramForm → StructureForm → Type 0
-MeetsEach p s = (claim : Claim) → ¬ IsUnmet p s claim
-
--- what is found is the first declaration that the structure contradicts, or none where it contradicts none
+-- it is the first declaration that the structure contradicts, or none where it contradicts none
 abbrev pub IsFound : ProgramForm → StructureForm → Option Claim → Type 0
-IsFound p s None = MeetsEach p s
-IsFound p s (Some claim) = IsFirstUnmet p s claim
+IsFound p s = IsFirstOf (IsUnmet p s)
 
--- so of the structure of this number
-abbrev pub IsFoundOf : ProgramForm → (structures : List StructureForm) → (number : ℕ) → Option Claim → Type 0
-IsFoundOf p structures number found =
-    (s : StructureForm) → slice_get structures number ≡ Some s → IsFound p s found
-
--- and for each of the numbers, in order
-abbrev pub AreFound : ProgramForm → (structures : List StructureForm) → (numbers : List ℕ)
-    → List (Option Claim) → Type 0
-AreFound p structures numbers found = AllZip (IsFoundOf p structures) numbers found
+-- each of the structures contradicts the declaration
+abbrev pub IsUnmetByEach : ProgramForm → (structures : List StructureForm) → Claim → Type 0
+IsUnmetByEach p structures claim = All (λ s. IsUnmet p s claim) structures
 
 -- what contradicts a declaration alone has no stable structure below it under all rules of the program
 abbrev pub UnmetLeavesNone : Type 0

@@ -4,7 +4,7 @@ ghost use Rattle.std.specs.Prelude.{◌≡◌, [], ◌∷◌, IfOk, OnOk, map, c
 ghost use Rattle.tv_model.specs.Program.{action_of, pred_of, program_of, rule_of};
 ghost use Rattle.tv_losses_unmet.specs.Alone.{alone, idle, kept_pred, loop_edge, plain_pred, preds_alone};
 ghost use Rattle.tv_losses_unmet.specs.Alone.{rules_alone};
-ghost use Rattle.tv_losses_unmet.specs.Tried.{IsOfRule};
+ghost use Rattle.tv_losses_unmet.specs.Kept.{IsOfRule};
 ghost use Rattle.tv_losses_unmet.specs.declared.claim.Claim.TheVariants.{Rule as OfRule};
 
 use crate::claim::Claim;

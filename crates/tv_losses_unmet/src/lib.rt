@@ -1,13 +1,13 @@
-//! Which declaration alone leaves no stable structure below a structure, for each of many structures.
+//! Which declaration alone leaves no stable structure below a structure, or below any of several.
 #![tactic(auto)]
 
 mod alone;
-mod asked;
 mod claim;
+mod closed;
+mod declared;
 mod laws;
 mod trial;
-mod unmet;
 
 pub use claim::Claim;
+pub use declared::Declared;
 pub use laws::unmet_leaves_none;
-pub use unmet::first_unmet_each;

@@ -17,7 +17,7 @@ use tv_listing::Listing;
 use tv_model::{Program, Rules};
 use tv_replay_judge::{first_above, first_listed, first_unlike, first_unmet};
 use tv_replay_laws::{ListedCover, State};
-use tv_replay_step::{Halt, Moved, next};
+use tv_replay_step::{Halt, Moved, Ordered, next};
 use tv_struct::{Structure, Structures};
 use tv_trace::Move;
 use tv_update::Order;
@@ -106,15 +106,12 @@ pub fn next_state(
     ensures halt { IfErr result (Halts (program_in judge.now) step.now (standing before.now)) }
     ensures scratch { scratch.new ≡ scratch.old }
 {
-    let Moved { node, heap, broken } = next(
+    let ordered = Ordered {
         alloc,
-        judge.program,
-        judge.order,
-        before.node,
-        &before.heap,
-        step,
-        scratch,
-    )?;
+        program: judge.program,
+        order: judge.order,
+    };
+    let Moved { node, heap, broken } = next(&ordered, before.node, &before.heap, step, scratch)?;
     let Judged { rule, listed } = judge_heap(alloc, judge, node, &heap, scratch)?;
     Ok(State {
         node,

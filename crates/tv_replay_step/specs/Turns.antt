@@ -31,6 +31,10 @@ program_in turn = program_of turn.program.now
 abbrev pub action_in : EdgeAction → ActionForm
 action_in turn = action_of turn.action.now
 
+-- the program's action of the number that the edge has
+abbrev pub action_along : EdgeAction → ActionForm
+action_along turn = action_at turn.program.now turn.edge.now.action
+
 -- the turn's action is that of its edge, a number of the program, and its order is of all definitions; s is a
 -- heap of the program, and the values of the move are over it
 pub record IsReadyFor (turn : EdgeAction) (s : StructureForm) (move : Move)
@@ -39,7 +43,7 @@ pub record IsReadyFor (turn : EdgeAction) (s : StructureForm) (move : Move)
   pub over : IsOver turn.program.now.vocab s
   pub number : turn.edge.now.action < length turn.program.now.actions
   pub order : AreAllDefined (program_in turn) (map (λ p. p.0) turn.order.now)
-  pub its_action : action_at turn.program.now turn.edge.now.action ≡ action_in turn
+  pub its_action : action_along turn ≡ action_in turn
   pub is_action : Contains (program_in turn).actions (action_in turn)
   pub values : IfSome move.values (IsRead turn.program.now.vocab)
   pub made : IsMadeFor (program_in turn) 256 room

@@ -11,4 +11,4 @@ mod step;
 mod updated;
 
 pub use moved::{Halt, Moved};
-pub use step::next;
+pub use step::{Ordered, next};

@@ -32,9 +32,18 @@ use tv_update::Order;
 /// The most individuals of a heap.
 const MAX_INDIVIDUALS: u32 = 256;
 
-/// An edge of a program and its action, and an order of the program's definitions.
+/// A program, an order of its definitions, and where memory comes from.
+#[derive(Clone, Copy)]
+pub struct Ordered<'a> {
+    pub alloc: Global,
+    pub program: &'a Program,
+    pub order: &'a Order,
+}
+
+/// An edge of a program and its action, an order of the program's definitions, and where memory comes from.
 #[derive(Clone, Copy)]
 pub struct EdgeAction<'a> {
+    pub alloc: Global,
     pub program: &'a Program,
     pub order: &'a Order,
     pub edge: &'a Edge,
@@ -44,7 +53,6 @@ pub struct EdgeAction<'a> {
 /// Where the action leads from the heap `s`, under individuals for its picked variables by which its
 /// precondition is true; `Values` where it leaves a predicate free for which there are no values.
 fn act(
-    alloc: Global,
     turn: &EdgeAction<'_>,
     s: &Structure,
     picks: &Assignment,
@@ -59,29 +67,11 @@ fn act(
 {
     let action = turn.action;
     let updates = action.updates.as_slice();
-    let number = turn.edge.action;
-    let given = updated(
-        alloc,
-        turn.program,
-        turn.order,
-        number,
-        action.fresh,
-        s,
-        picks,
-        scratch,
-    )?;
+    let given = updated(turn, s, picks, scratch)?;
     if !gives_all(step, updates, given.size()) {
         return Err(Halt::Stuck(Why::Values));
     }
-    let heap = finished(
-        alloc,
-        turn.program,
-        turn.order,
-        updates,
-        step,
-        &given,
-        scratch,
-    )?;
+    let heap = finished(turn, updates, step, &given, scratch)?;
     let broken = first_differing(turn.program, action, &given, &heap);
     let node = turn.edge.to;
     Ok(Moved { node, heap, broken })
@@ -100,7 +90,6 @@ fn has_room(action: &Action, s: &Structure) -> bool
 
 /// Where the edge leads from the heap `s`, under these individuals for its picked variables.
 fn turn_picked(
-    alloc: Global,
     turn: &EdgeAction<'_>,
     s: &Structure,
     picks: &Assignment,
@@ -119,12 +108,11 @@ fn turn_picked(
     if !has_room(turn.action, s) {
         return Err(Halt::Stuck(Why::Individuals));
     }
-    act(alloc, turn, s, picks, step, scratch)
+    act(turn, s, picks, step, scratch)
 }
 
 /// Where the edge leads from the heap `s`, by the picks and values of the step.
 fn make_turn(
-    alloc: Global,
     turn: &EdgeAction<'_>,
     s: &Structure,
     step: &Move,
@@ -138,7 +126,7 @@ fn make_turn(
     let vars = turn.action.picks.as_slice();
     let chosen = step.picks.as_slice();
     match put_picked(Assignment::new(), vars, chosen, s.size()) {
-        Some(picks) => turn_picked(alloc, turn, s, &picks, step, scratch),
+        Some(picks) => turn_picked(turn, s, &picks, step, scratch),
         None => Err(Halt::Stuck(Why::Picks)),
     }
 }
@@ -151,38 +139,38 @@ fn make_turn(
 /// `Stuck` exactly where the step can't be made, with the first reason that holds; `Memory` where there was
 /// none for the new heap.
 pub fn next(
-    alloc: Global,
-    program: &Program,
-    order: &Order,
+    ordered: &Ordered<'_>,
     node: u32,
     s: &Structure,
     step: &Move,
     scratch: &mut Scratch,
 ) -> Result<Moved, Halt>
-    requires valid { IsValid (program_of program.now) }
-    requires order { AreAllDefined (program_of program.now) (map (λ p. p.0) order.now) }
-    requires over { IsOver program.now.vocab s.now }
+    requires valid { IsValid (program_of ordered.now.program.now) }
+    requires order { AreAllDefined (program_of ordered.now.program.now)
+        (map (λ p. p.0) ordered.now.order.now) }
+    requires over { IsOver ordered.now.program.now.vocab s.now }
     requires unmarked { s.now.fresh ≡ None }
     requires two_valued { IsTwoValued s.now }
-    requires step { IsMoveOn program.now program.now.vocab step.now }
-    requires scratch { IsMadeFor (program_of program.now) 256 scratch.old }
+    requires step { IsMoveOn ordered.now.program.now ordered.now.program.now.vocab step.now }
+    requires scratch { IsMadeFor (program_of ordered.now.program.now) 256 scratch.old }
     ensures moved { IfOk result
-        (IsMoved (program_of program.now) step.now (record { node = node; heap = s.now })) }
+        (IsMoved (program_of ordered.now.program.now) step.now (record { node = node; heap = s.now })) }
     ensures halt { IfErr result
-        (Halts (program_of program.now) step.now (record { node = node; heap = s.now })) }
+        (Halts (program_of ordered.now.program.now) step.now (record { node = node; heap = s.now })) }
     ensures scratch { scratch.new ≡ scratch.old }
 {
     let _ = s.size();
-    let edge = &program.edges.as_slice()[step.edge as usize];
+    let edge = &ordered.program.edges.as_slice()[step.edge as usize];
     if edge.from != node {
         return Err(Halt::Stuck(Why::Edge));
     }
-    let action = &program.actions.as_slice()[edge.action as usize];
+    let action = &ordered.program.actions.as_slice()[edge.action as usize];
     let turn = EdgeAction {
-        program,
-        order,
+        alloc: ordered.alloc,
+        program: ordered.program,
+        order: ordered.order,
         edge,
         action,
     };
-    make_turn(alloc, &turn, s, step, scratch)
+    make_turn(&turn, s, step, scratch)
 }

@@ -3,3 +3,4 @@ pub mod Files
 pub mod Agreement
 pub mod Faults
 pub mod Sources
+pub mod Structures

@@ -32,7 +32,7 @@ pub const MAX_REPORT: usize = 67_108_864;
 
 /// The content of the file of this role, where it has at most `limit` bytes. It is begun once.
 #[tactic(auto, using(crate::proofs::Loading::not_read))]
-fn read_file<F: Files>(
+pub(crate) fn read_file<F: Files>(
     alloc: Global,
     files: &mut F,
     name: &str,

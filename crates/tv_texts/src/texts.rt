@@ -35,7 +35,7 @@ use tv_two_valued::is_two_valued;
 
 /// The tokens of the text of a file that has this role.
 #[tactic(auto, using(crate::proofs::Refusals::unlexed))]
-fn tokens_in(alloc: Global, bytes: &[u8], role: Role) -> Result<Tokens, TextFault>
+pub(crate) fn tokens_in(alloc: Global, bytes: &[u8], role: Role) -> Result<Tokens, TextFault>
     requires { length bytes.now ≤ longest_text }
     ensures tokens { IfOk result (λ t. Reads bytes.now (Ok t.list.items)) }
     ensures order { IfOk result (λ t. AreInOrder 0 t.list.items (length bytes.now)) }

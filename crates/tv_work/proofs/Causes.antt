@@ -1,5 +1,5 @@
 -- Why there is no answer, and what that says of the reached points.
-use Rattle.std.proofs.Common.{ℕ, Result, Ok, Err, OnOk}
+use Rattle.std.proofs.Common.{ℕ, ◌≡◌, ◌∙◌, List, Result, Ok, Err, OnOk, length}
 use Rattle.tv_model.specs.Program.{ProgramForm}
 use Rattle.tv_struct.specs.declared.analysis.StageError.{StageError}
 use Rattle.tv_struct.specs.declared.analysis.StageError.TheVariants.{Splits as splits}
@@ -7,7 +7,10 @@ use Rattle.tv_struct.specs.declared.analysis.StageError.TheVariants.{Individuals
 use Rattle.tv_struct.specs.declared.analysis.StageError.TheVariants.{Memory as memory}
 use Rattle.tv_step_laws.specs.Budgets.{IsStepCause}
 use Rattle.tv_work.specs.Analyzed.{IsAtSource, IsWorkCause, IsMeetCause, work_error}
+use Rattle.tv_structure_form.specs.StructureForm.{StructureForm}
 use Rattle.tv_work.specs.Reach.{Point, AreMoreThan}
+use Rattle.tv_work.specs.Stopped.{ListsOneMore, IsMeetStop, IsTaskStop}
+use Rattle.tv_work.specs.Task.{TaskForm, reached_in}
 use Rattle.tv_work.specs.declared.error.WorkError.{WorkError}
 use Rattle.tv_work.specs.declared.error.WorkError.TheVariants.{Structures, Splits, Individuals, Memory}
 
@@ -51,3 +54,43 @@ step-cause p max edge P x source splits cause
 step-cause p max edge P x source individuals cause
     = record { edge = edge; at = x; source = source; budget = cause }
 step-cause p max edge P x source memory cause = tt
+
+-- ---- what is listed where one more is met than may be
+
+listed-weaker : (m n max : ℕ) (P Q : Point → Type 0) (listing : List (List StructureForm)) → m ≡ n
+    → ((x : Point) → P x → Q x) → ListsOneMore m max P listing → ListsOneMore n max Q listing
+listed-weaker m n max P Q listing same weaker lists = record {
+  count = lists.count ∙ same;
+  different = lists.different;
+  each = λ x h. weaker x (lists.each x h);
+  total = lists.total;
+}
+
+pub stop-weaker : (m n max : ℕ) (P Q : Point → Type 0) (listing : List (List StructureForm)) → m ≡ n
+    → ((x : Point) → P x → Q x) → (e : WorkError) → IsMeetStop m max P listing e
+    → IsMeetStop n max Q listing e
+stop-weaker m n max P Q listing same weaker Structures stop =
+    listed-weaker m n max P Q listing same weaker stop
+stop-weaker m n max P Q listing same weaker Splits stop = stop
+stop-weaker m n max P Q listing same weaker Individuals stop = stop
+stop-weaker m n max P Q listing same weaker Memory stop = tt
+
+-- structures are met that are reached
+pub meet-stop : (t : TaskForm) (nodes : ℕ) (P : Point → Type 0) (listing : List (List StructureForm))
+    → nodes ≡ length t.program.nodes → ((x : Point) → P x → reached_in t x) → (e : WorkError)
+    → IsMeetStop nodes t.max P listing e → IsTaskStop t listing e
+meet-stop t nodes P listing same weaker Structures stop =
+    listed-weaker nodes (length t.program.nodes) t.max P (reached_in t) listing same weaker stop
+meet-stop t nodes P listing same weaker Splits stop = absurd stop
+meet-stop t nodes P listing same weaker Individuals stop = absurd stop
+meet-stop t nodes P listing same weaker Memory stop = tt
+
+-- the step of a reached structure has no answer
+pub step-stop : (t : TaskForm) (edge : ℕ) (listing : List (List StructureForm)) (x : Point)
+    → IsAtSource t.program edge (reached_in t) x → (fault : StageError)
+    → IsStepCause t.program edge x.structure fault → IsTaskStop t listing (work_error fault)
+step-stop t edge listing x source splits cause
+    = record { edge = edge; at = x; source = source; budget = cause }
+step-stop t edge listing x source individuals cause
+    = record { edge = edge; at = x; source = source; budget = cause }
+step-stop t edge listing x source memory cause = tt

@@ -7,9 +7,10 @@ use Rattle.std.proofs.lemmas.List.Elements.{Contains-append_left, Contains-push,
 use Rattle.std.proofs.lemmas.List.Elements.{All-push}
 use Rattle.tv_structure_form.proofs.Library.{unmarked-same}
 use Rattle.tv_listing.specs.ListingForm.{at_node, appended, HasEqual}
-use Rattle.tv_structure_form.specs.StructureForm.{StructureForm, unmarked}
+use Rattle.tv_structure_form.specs.StructureForm.{StructureForm}
 use Rattle.tv_work.specs.Reach.{Point, IsListed, AreMoreThan}
 use Rattle.tv_work.specs.Search.{SearchForm, Waits, IsOnce, IsSearch, IsWithin, Grows, ListsOnly}
+use Rattle.tv_work.specs.Stopped.{ListsOneMore}
 use Rattle.tv_work.specs.declared.search.Waiting.{Waiting}
 use Rattle.tv_work.proofs.Once.{once-push, once-different}
 use Rattle.tv_work.proofs.Meeting.{at-same, at-each, listed-kept, listed-cases, stands-kept, stands-last}
@@ -128,16 +129,30 @@ module _ (old : SearchForm) (node : ℕ) (s : StructureForm) (is-node : node < l
                 (at_node old.listing node) (s ∷ []),
           ))
 
+  all-different : All (AllPairs (λ t u. t ≢ u)) (appended old.listing node s)
+  all-different k d within = subst (AllPairs (λ t u. t ≢ u))
+      (get_or_default (appended old.listing node s) k [] d within)
+      (once-different (at_node (appended old.listing node s) k) (still-once k))
+
   -- one more than may be listed
   pub one-more : (max : ℕ) → IsWithin max old → old.count ≡ max
       → AreMoreThan max (λ x. IsListed old.listing x ⊎ (x ≡ record { node = node; structure = s }))
   one-more max within full = record {
     found = appended old.listing node s;
-    different = λ k d within. subst (AllPairs (λ t u. t ≢ u))
-        (get_or_default (appended old.listing node s) k [] d within)
-        (once-different (at_node (appended old.listing node s) k) (still-once k));
+    different = all-different;
     each = listed-cases old.listing node s is-node;
     more = omega (arith, total-more old.listing node s is-node, within.count, full);
+  }
+
+  -- and the listing has it
+  pub lists-one-more : (max : ℕ) → IsWithin max old → old.count ≡ max
+      → ListsOneMore (length old.listing) max
+      (λ x. IsListed old.listing x ⊎ (x ≡ record { node = node; structure = s })) (appended old.listing node s)
+  lists-one-more max within full = record {
+    count = length-set old.listing node (at_node old.listing node ++ s ∷ []);
+    different = all-different;
+    each = listed-cases old.listing node s is-node;
+    total = omega (arith, total-more old.listing node s is-node, within.count, full);
   }
 
 -- an equal structure is the same where neither is marked

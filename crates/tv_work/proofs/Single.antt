@@ -1,16 +1,13 @@
 -- There is one analysis: what is listed, and the lines, are fixed by what they have and by their order.
-use Rattle.std.proofs.Common.{ℕ, ◌≡◌, ◌<◌, inl, inr, List, [], get_or, sym}
+use Rattle.std.proofs.Common.{◌<◌, inl, inr, [], get_or, sym}
 use Rattle.std.proofs.Common.{subst}
 use Rattle.std.proofs.Common.{◌∙◌, arith}
-use Rattle.std.specs.Prelude.{◌↔◌}
 use Rattle.std.proofs.lemmas.List.{ext_get_or}
 use Rattle.tv_model.proofs.Ordered.{ordered_same}
-use Rattle.tv_listing.specs.ListingForm.{at_node}
 use Rattle.tv_listing.specs.declared.analysis.MessageLine.{MessageLine}
 use Rattle.tv_step_laws.proofs.Exact.{sorted-same}
 use Rattle.tv_struct.specs.Order.{structure_cmp, structure_cmp_total}
-use Rattle.tv_structure_form.specs.StructureForm.{StructureForm}
-use Rattle.tv_work.specs.Analyzed.{IsAnalysis, IsBefore}
+use Rattle.tv_work.specs.Analyzed.{IsBefore}
 use Rattle.tv_work.specs.Laws.{AnalysesAreOne}
 
 -- ---- lines in their order

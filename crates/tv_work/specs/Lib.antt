@@ -6,3 +6,4 @@ pub mod Leaving
 pub mod Search
 pub mod Told
 pub mod Explored
+pub mod Stopped

@@ -6,7 +6,8 @@ ghost use Rattle.tv_work.specs.Leaving.{LeavesBy};
 ghost use Rattle.tv_work.specs.Search.{Grows};
 ghost use Rattle.tv_work.specs.Task.{task_of, IsReady};
 ghost use Rattle.tv_work.specs.Explored.{IsSearchState, AreSaid, Advances, IsOpenedIn, AreDone, DoesAlong};
-ghost use Rattle.tv_work.specs.Explored.{Does, IsTaskCause, KeepsListed};
+ghost use Rattle.tv_work.specs.Explored.{Does, KeepsListed};
+ghost use Rattle.tv_work.specs.Stopped.{IsTaskStop};
 
 use crate::WorkError;
 use crate::search::{Search, Waiting};
@@ -28,7 +29,7 @@ fn open(
     ensures kept { OnOk result (IsSearchState (task_of x.now) search.new) }
     ensures grows { OnOk result (Grows search.old search.new) }
     ensures opened { OnOk result (IsOpenedIn (task_of x.now) search.new.listing s.now) }
-    ensures cause { IfErr result (IsTaskCause (task_of x.now)) }
+    ensures cause { IfErr result (IsTaskStop (task_of x.now) search.new.listing) }
     ensures same { stepper.new ≡ stepper.old }
 {
     match stepper.opening(s)? {
@@ -44,7 +45,7 @@ pub fn open_all(x: &Task, stepper: &mut Stepper, search: &mut Search) -> Result<
     ensures kept { OnOk result (IsSearchState (task_of x.now) search.new) }
     ensures grows { OnOk result (Grows search.old search.new) }
     ensures opened { OnOk result (All (IsOpenedIn (task_of x.now) search.new.listing) x.now.initial.now) }
-    ensures cause { IfErr result (IsTaskCause (task_of x.now)) }
+    ensures cause { IfErr result (IsTaskStop (task_of x.now) search.new.listing) }
     ensures same { stepper.new ≡ stepper.old }
 {
     for s in x.initial {
@@ -72,7 +73,7 @@ fn follow_edge(
     ensures said { OnOk result (AreSaid (task_of x.now) search.new.listing told.new) }
     ensures advances { OnOk result (Advances search.old told.old search.new told.new) }
     ensures done { OnOk result (DoesAlong (task_of x.now) w edge search.old search.new told.new) }
-    ensures cause { IfErr result (IsTaskCause (task_of x.now)) }
+    ensures cause { IfErr result (IsTaskStop (task_of x.now) search.new.listing) }
     ensures same { stepper.new ≡ stepper.old }
 {
     let to = x.program.edges.as_slice()[edge as usize].to;
@@ -97,7 +98,7 @@ fn follow(
     ensures said { OnOk result (AreSaid (task_of x.now) search.new.listing told.new) }
     ensures advances { OnOk result (Advances search.old told.old search.new told.new) }
     ensures done { OnOk result (Does (task_of x.now) w search.old search.new told.new) }
-    ensures cause { IfErr result (IsTaskCause (task_of x.now)) }
+    ensures cause { IfErr result (IsTaskStop (task_of x.now) search.new.listing) }
     ensures same { stepper.new ≡ stepper.old }
 {
     for edge in x.leaving[w.node as usize].as_slice() {
@@ -122,7 +123,7 @@ pub fn follow_all(
     ensures listed { OnOk result (KeepsListed search.old.listing search.new.listing) }
     ensures done { OnOk result (AreDone (task_of x.now) search.new told.new) }
     ensures none { OnOk result (search.new.waiting ≡ []) }
-    ensures cause { IfErr result (IsTaskCause (task_of x.now)) }
+    ensures cause { IfErr result (IsTaskStop (task_of x.now) search.new.listing) }
 {
     while let Some(w) = search.pop() {
         follow(x, w, stepper, search, told)?;

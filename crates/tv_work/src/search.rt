@@ -6,7 +6,7 @@ ghost use Rattle.tv_listing.specs.ListingForm.{at_node};
 ghost use Rattle.tv_structure_form.specs.StructureForm.{StructureForm, IsStructure};
 ghost use Rattle.tv_work.specs.Reach.{Point, IsListed};
 ghost use Rattle.tv_work.specs.Search.{SearchForm, Grows, ListsOnly, IsOnce, IsWithin};
-ghost use Rattle.tv_work.specs.Analyzed.{IsMeetCause};
+ghost use Rattle.tv_work.specs.Stopped.{IsMeetStop};
 
 use crate::WorkError;
 use std::alloc::{AllocError, Global};
@@ -66,8 +66,8 @@ impl Search {
         })
     }
 
-    /// Meets a structure at a node: a new one is listed, and waits. `Structures` where more than `max` are
-    /// then listed.
+    /// Meets a structure at a node: a new one is listed, and waits. `Structures` where one more than `max`
+    /// are then listed.
     pub fn meet(&mut self, node: u32, s: Structure, max: u64) -> Result<(), WorkError>
         requires node { node < length self.old.listing }
         requires within { IsWithin max self.old }
@@ -78,8 +78,8 @@ impl Search {
             self.new) }
         ensures within { OnOk result (IsWithin max self.new) }
         ensures cause { IfErr result
-            (IsMeetCause max (λ x. IsListed self.old.listing x
-            ⊎ (x ≡ record { node = node; structure = s }))) }
+            (IsMeetStop (length self.old.listing) max (λ x. IsListed self.old.listing x
+            ⊎ (x ≡ record { node = node; structure = s })) self.new.listing) }
     {
         if !self.listing.add(node, s)? {
             return Ok(());
@@ -106,8 +106,8 @@ impl Search {
             self.new) }
         ensures within { OnOk result (IsWithin max self.new) }
         ensures cause { IfErr result
-            (IsMeetCause max (λ x. IsListed self.old.listing x
-            ⊎ ((x.node ≡ node) × Contains found x.structure))) }
+            (IsMeetStop (length self.old.listing) max (λ x. IsListed self.old.listing x
+            ⊎ ((x.node ≡ node) × Contains found x.structure)) self.new.listing) }
     {
         self.meet(node, only(found), max)
     }
@@ -124,8 +124,8 @@ impl Search {
             self.new) }
         ensures within { OnOk result (IsWithin max self.new) }
         ensures cause { IfErr result
-            (IsMeetCause max (λ x. IsListed self.old.listing x
-            ⊎ ((x.node ≡ node) × Contains found x.structure))) }
+            (IsMeetStop (length self.old.listing) max (λ x. IsListed self.old.listing x
+            ⊎ ((x.node ≡ node) × Contains found x.structure)) self.new.listing) }
     {
         if found.len() == 1 {
             return self.meet_only(node, found, max);

@@ -4,8 +4,8 @@ use super::reader::{action, heap, picked, program};
 use std::alloc::Global;
 use std::process::Abort;
 use std::test::Fail;
-use tv_concrete::{HeapList, Values, is_fair_through};
-use tv_fair::fairly_steps;
+use tv_concrete::{Acting, HeapList, Step, Values, is_fair_through};
+use tv_fair::{Ends, fairly_steps};
 use tv_model::{Action, Mode, Program};
 
 /// A line has the parts of an action, the individuals that it picks, an old, a middle and a new heap, and
@@ -58,9 +58,19 @@ fn is_fair(
         return Err(Fail::new("too many predicates"));
     }
     let action = action(program)?;
-    let values = picked(action, individuals);
+    let acting = Acting {
+        program,
+        mode,
+        action,
+    };
     let (old, middle, new) = heaps;
-    Ok(is_fair_through(alloc, program, mode, action, values, old, middle, new)?)
+    let step = Step {
+        picked: picked(action, individuals),
+        old,
+        middle,
+        new,
+    };
+    Ok(is_fair_through(alloc, &acting, &step)?)
 }
 
 /// Whether the step of a line is fair in the modes that the line tells.
@@ -98,18 +108,19 @@ fn steps_to(alloc: Global, parts: &str, new: &str) -> Result<bool, Fail> {
     if program.vocab.preds.len() > 512 {
         return Err(Fail::new("too many predicates"));
     }
+    let acting = Acting {
+        program: &program,
+        mode: Mode::Given,
+        action: action(&program)?,
+    };
     let old = heap(alloc, &program, "1 x(1)")?;
     let new = heap(alloc, &program, new)?;
-    let action = action(&program)?;
-    Ok(fairly_steps(
-        alloc,
-        &program,
-        Mode::Given,
-        action,
-        Values::blank(),
-        &old,
-        &new,
-    )?)
+    let ends = Ends {
+        picked: Values::blank(),
+        old: &old,
+        new: &new,
+    };
+    Ok(fairly_steps(alloc, &acting, &ends)?)
 }
 
 #[test]

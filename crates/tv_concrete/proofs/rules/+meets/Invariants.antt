@@ -1,9 +1,8 @@
 -- The variables become fewer; the rule is true for each individual so far.
 use Rattle.std.proofs.Common.{ℕ, ◌+◌, ◌*◌, ◌<◌, length, get_or}
-use Rattle.tv_model.specs.Program.{rule_of}
 use Rattle.tv_model.specs.Truth.{put}
-use Rattle.tv_concrete.specs.Assignments.{EachPut, RuleTruth}
-use Rattle.tv_concrete.specs.Lists.{heap_of, assignment_of}
+use Rattle.tv_concrete.specs.Assignments.{IsTrueFrom}
+use Rattle.tv_concrete.specs.Lists.{assignment_of}
 use Rattle.tv_concrete.proofs.rules.+meets.Given as goal
 
 abbrev pub decreases-meets_for_each : goal.decreases-meets_for_each
@@ -18,5 +17,4 @@ decreases-meets_with l = 3 * length l.rest.now + 1
 abbrev pub invariant-meets_for_each_of-loop-u : goal.invariant-meets_for_each_of-loop-u
 invariant-meets_for_each_of-loop-u l =
     (k : ℕ) → k < l.u-index
-    → EachPut (heap_of l.heap) l.rest (put (assignment_of l.values) l.v.0 (get_or l.u-items k 0))
-    (RuleTruth (heap_of l.heap) (rule_of l.rule))
+    → IsTrueFrom l.trial l.rest (put (assignment_of l.values) l.v.0 (get_or l.u-items k 0))

@@ -8,5 +8,5 @@ use Rattle.tv_concrete.proofs.step.keeps.Goals as goal
 pub returns-in-Some : goal.returns-in-Some
 returns-in-Some c =
     let P : Assignment → Type 0 = λ a. IsTrue c.holds.result
-    ↔ Truth (heap_of c.args.middle.now) a (form_of c.in-Some.retain.keep)
+    ↔ Truth (heap_of c.args.step.now.middle.now) a (form_of c.in-Some.retain.keep)
     in rw c.in-Some.is (subst P c.with.ensures c.holds.ensures)

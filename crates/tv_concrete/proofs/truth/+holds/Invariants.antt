@@ -18,10 +18,10 @@ abbrev pub decreases-holds_with : goal.decreases-holds_with
 decreases-holds_with l = 36893488147419103232 * height (form_of l.body.now) + 1
 
 abbrev pub decreases-is_edge : goal.decreases-is_edge
-decreases-is_edge l = 36893488147419103232 * height (form_of l.body.now) + 2
+decreases-is_edge l = 36893488147419103232 * height (form_of l.edges.now.body.now) + 2
 
 abbrev pub decreases-reaches : goal.decreases-reaches
-decreases-reaches l = 36893488147419103232 * height (form_of l.body.now) + length l.allowed.now + 3
+decreases-reaches l = 36893488147419103232 * height (form_of l.edges.now.body.now) + length l.allowed.now + 3
 
 -- the body is true of each individual so far
 abbrev pub invariant-holds_of_all-loop-u : goal.invariant-holds_of_all-loop-u

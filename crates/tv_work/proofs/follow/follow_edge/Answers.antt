@@ -1,4 +1,4 @@
-use Rattle.std.proofs.Common.{◌≡◌, ◌⊎◌, refl, subst, Some, Contains}
+use Rattle.std.proofs.Common.{◌≡◌, ◌⊎◌, length, refl, subst, Some, Contains}
 use Rattle.std.specs.Prelude.{All, slice_get}
 use Rattle.std.proofs.lemmas.Option.{slice_get_within}
 use Rattle.std.proofs.lemmas.Result.{err_from_is_err_and, on_ok_weaker}
@@ -10,13 +10,14 @@ use Rattle.tv_step_laws.specs.Budgets.{IsStepCause, KeepsBudgets}
 use Rattle.tv_step_laws.specs.Settled.{IsSettled}
 use Rattle.tv_step_laws.specs.Transfer.{AreMessageValues, AreResults}
 use Rattle.tv_step_laws.proofs.Shapes.{shaped-over}
-use Rattle.tv_work.specs.Analyzed.{IsMeetCause, IsWorkCause, IsAtSource}
+use Rattle.tv_work.specs.Analyzed.{IsAtSource}
 use Rattle.tv_work.specs.Reach.{Point, IsListed}
 use Rattle.tv_work.specs.Search.{StandsFor}
+use Rattle.tv_work.specs.Stopped.{IsMeetStop, IsTaskStop}
 use Rattle.tv_work.specs.Task.{task_of, reached_in}
 use Rattle.tv_work.proofs.Advancing.{stands-listed, target_at, target-is, arrived-reached, arrived-kept}
 use Rattle.tv_work.proofs.Advancing.{does-along}
-use Rattle.tv_work.proofs.Causes.{ok-three, meet-cause, step-cause}
+use Rattle.tv_work.proofs.Causes.{ok-three, meet-stop, step-stop}
 use Rattle.tv_work.proofs.Saying.{values-few, noted-rises, noted-tells, said-kept, said-noted}
 use Rattle.tv_work.proofs.follow.follow_edge.Goals as goal
 
@@ -55,7 +56,7 @@ returns-in_err-out-clause-cause c =
     in let fault = c.in_err-out.field-0.0
     in let p = err_from_is_err_and c.from_residual.result c.from_residual.ensures.1
     in rw (p.1, p.2)
-    (step-cause (program_of c.args.x.now.program.now) c.args.x.now.max c.args.edge (reached_in t) x source fault
+    (step-stop t c.args.edge c.args.search.now.listing x source fault
     (subst (λ (e : EngineForm). IsStepCause (program_of e.program) c.args.edge x.structure fault)
     c.requires.ready.made c.in_err-out.ensures.step.cause))
 
@@ -69,7 +70,6 @@ note-requires-clause-few c =
 pub returns : goal.returns
 returns c =
     let t = task_of c.args.x.now
-    in let max = c.args.x.now.max
     in let edge = c.args.edge
     in let old = c.args.search.now
     in let new = c.meet_all.new.self
@@ -116,8 +116,9 @@ returns c =
           (λ met. does-along t c.args.w edge to x old new told rs stands enters results met
           (noted-tells edge ks c.args.told.now told noted t.program x.structure values) budgets)
           c.meet_all.ensures.has;
-      cause = IfErr-weaker c.meet_all.result (IsMeetCause max P) (IsWorkCause t.program max (reached_in t))
-          (meet-cause t.program max P (reached_in t)
+      cause = IfErr-weaker c.meet_all.result (IsMeetStop (length old.listing) t.max P new.listing)
+          (IsTaskStop t new.listing)
+          (meet-stop t (length old.listing) P new.listing c.requires.kept.nodes
           (arrived-reached t edge to taken x rs at from (enters taken at) results settled old c.requires.kept has))
           c.meet_all.ensures.cause;
       same = cc;

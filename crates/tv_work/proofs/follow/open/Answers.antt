@@ -1,4 +1,4 @@
-use Rattle.std.proofs.Common.{◌≡◌, ◌∙◌, ◌⊎◌, inl, inr, sym, subst, IfSome, IfNone}
+use Rattle.std.proofs.Common.{◌≡◌, ◌∙◌, ◌⊎◌, inl, inr, length, sym, subst, IfSome, IfNone}
 use Rattle.std.proofs.lemmas.List.Elements.{All-contains}
 use Rattle.std.proofs.lemmas.Option.{none-some, same_Some}
 use Rattle.std.proofs.lemmas.Result.{on_ok_weaker}
@@ -9,11 +9,11 @@ use Rattle.tv_step.specs.EngineForm.{EngineForm}
 use Rattle.tv_structure_form.specs.StructureForm.{IsOver}
 use Rattle.tv_step_laws.specs.Settled.{IsSettled}
 use Rattle.tv_step_laws.specs.Transfer.{HasNoOpening, IsOpening}
-use Rattle.tv_work.specs.Analyzed.{IsMeetCause, IsWorkCause}
 use Rattle.tv_work.specs.Reach.{Point, IsListed}
-use Rattle.tv_work.specs.Task.{task_of, reached_in}
+use Rattle.tv_work.specs.Stopped.{IsMeetStop, IsTaskStop}
+use Rattle.tv_work.specs.Task.{task_of}
 use Rattle.tv_work.proofs.Advancing.{open-reached, open-kept}
-use Rattle.tv_work.proofs.Causes.{ok-three, meet-cause}
+use Rattle.tv_work.proofs.Causes.{ok-three, meet-stop}
 use Rattle.tv_work.proofs.follow.open.Goals as goal
 
 pub opening-requires : goal.opening-requires
@@ -74,8 +74,10 @@ returns-in-Some c =
             any = inr (u, opening);
           })
           c.meet.ensures.has;
-      cause = IfErr-weaker c.meet.result (IsMeetCause t.max P) (IsWorkCause p t.max (reached_in t))
-          (meet-cause p t.max P (reached_in t) (open-reached t s u c.requires.initial opening settled old c.requires.kept))
+      cause = IfErr-weaker c.meet.result (IsMeetStop (length old.listing) t.max P new.listing)
+          (IsTaskStop t new.listing)
+          (meet-stop t (length old.listing) P new.listing c.requires.kept.nodes
+          (open-reached t s u c.requires.initial opening settled old c.requires.kept))
           c.meet.ensures.cause;
       same = cc;
     }

@@ -4,7 +4,7 @@ use Rattle.std.proofs.lemmas.Iterator.Adapters.{YieldsList-from_vec}
 use Rattle.std.proofs.lemmas.Iterator.Consumers.{YieldsList-turn}
 use Rattle.std.proofs.lemmas.Result.{err_from_is_err_and}
 use Rattle.tv_work.specs.Reach.{Point, IsListed}
-use Rattle.tv_work.proofs.Causes.{meet-weaker}
+use Rattle.tv_work.proofs.Causes.{stop-weaker}
 use Rattle.tv_work.proofs.Growing.{met-next, met-cause}
 use Rattle.tv_work.proofs.search.Search.meet_all.Goals as goal
 
@@ -33,7 +33,8 @@ returns-in_err-meet-clause-cause c =
     in let Q : Point → Type 0
     = λ x. IsListed c.args.self.now.listing x ⊎ ((x.node ≡ c.args.node) × Contains c.args.found x.structure)
     in rw (p.1, p.2)
-    (meet-weaker c.args.max P Q
+    (stop-weaker (length c.loop-s.self.listing) (length c.args.self.now.listing) c.args.max P Q
+    c.meet.new.self.listing c.loop-s.invariant.grows.nodes
     (met-cause c.args.max c.args.node c.args.found c.loop-s.yielded c.in-Some.s c.args.self.now c.loop-s.self
     c.loop-s.invariant
     (length c.loop-s.yielded, turn.0, sym turn.1))

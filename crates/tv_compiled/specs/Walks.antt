@@ -1,6 +1,0 @@
--- What the walks of the code stand for.
-use Rattle.tv_compiled.specs.Formulas.{WalkForm}
-use Rattle.tv_compiled.specs.declared.formula.Walk.{Walk}
-
-abbrev pub walk_of : Walk → WalkForm
-walk_of w = record { pred = w.pred.0; from = w.from.0; to = w.to.0 }

@@ -1,0 +1,6 @@
+mod Ending
+mod Naming
+mod Counting
+mod Lining
+mod Weaving
+mod Comparing

@@ -1,0 +1,4 @@
+pub mod Ends
+pub mod Named
+pub mod Lines
+pub mod Text

@@ -1,0 +1,4 @@
+mod Fated
+mod Finding
+mod Planned
+mod Turns

@@ -1,0 +1,2 @@
+mod OverAll
+mod Turns

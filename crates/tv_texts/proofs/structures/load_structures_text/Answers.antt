@@ -1,0 +1,12 @@
+use Rattle.std.proofs.Common.{Err}
+use Rattle.std.proofs.lemmas.Result.{IfErr-weaker}
+use Rattle.tv_status.specs.declared.status.Role.TheVariants as role
+use Rattle.tv_texts.specs.Meaning.{MeansInitial}
+use Rattle.tv_texts.proofs.Loading.{held_refused}
+use Rattle.tv_texts.proofs.structures.load_structures_text.Goals as goal
+
+pub returns-clause-cause : goal.returns-clause-cause
+returns-clause-cause g c = IfErr-weaker c.structures_text_in.result _ _
+    (λ fault refused. held_refused _ c.args.name.now c.in_ok-bytes.bytes.items role.Initial
+    (λ text k. MeansInitial c.args.program.now text (Err k)) _ _ _ fault c.in_ok-bytes.ensures.content
+    refused) c.structures_text_in.ensures.cause

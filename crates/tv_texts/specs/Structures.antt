@@ -1,0 +1,22 @@
+-- Texts of structures, with what they mean.
+use Rattle.std.specs.Prelude.{ℕ, ◌≤◌, List, length, Option, Ok}
+use Rattle.tv_lex.specs.Gather.{longest_gathered}
+use Rattle.tv_lex.specs.Pieces.{Reads}
+use Rattle.tv_lex.specs.Token.{spec_tokens}
+use Rattle.tv_model.specs.declared.program.Program.{Program}
+use Rattle.tv_outside.specs.Told.{Held, IsContent}
+use Rattle.tv_tvs.specs.Meaning.{MeansStructs}
+use Rattle.tv_texts.specs.declared.structures.StructuresText.{StructuresText}
+
+-- the tokens are those of the text, which means the structures over the program's vocabulary
+pub record AreRead (program : Program) (text : StructuresText) : Type 0 where
+  pub size : length text.bytes.items ≤ longest_gathered
+  pub tokens : Reads text.bytes.items (Ok text.tokens.list.items)
+  pub means : MeansStructs program.vocab (spec_tokens text.bytes.items text.tokens.list.items)
+      (Ok text.structures)
+
+-- the named file holds this text, where that is told
+pub record IsStructuresText (told : Option Held) (name : List ℕ) (program : Program)
+    (text : StructuresText) : Type 0 where
+  pub content : IsContent told name text.bytes.items
+  pub read : AreRead program text

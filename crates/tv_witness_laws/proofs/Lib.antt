@@ -1,0 +1,6 @@
+pub mod Aims
+pub mod Counting
+pub mod Ending
+pub mod Starting
+pub mod Replaying
+pub mod Stepping

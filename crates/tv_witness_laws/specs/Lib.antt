@@ -1,0 +1,5 @@
+pub mod Witness
+pub mod Search
+pub mod Replays
+pub mod Steps
+pub mod Laws
