@@ -1,0 +1,7 @@
+mod Blaming
+mod Counting
+mod Dropping
+mod Listing
+mod Owning
+mod Picking
+mod Trying
