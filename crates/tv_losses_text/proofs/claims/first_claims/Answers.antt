@@ -1,4 +1,5 @@
-use Rattle.std.proofs.Common.{◌<◌, arith, length}
+use Rattle.std.proofs.Common.{◌<◌, arith, length, subst}
+use Rattle.tv_losses_unmet.specs.Unmet.{IsFound}
 use Rattle.tv_lemmas.proofs.Lists.{All-found}
 use Rattle.tv_model.specs.Program.{program_of}
 use Rattle.tv_losses_text.specs.Reports.{IsFoundOf}
@@ -16,7 +17,10 @@ loop-place-preserved c = record {
       c.loop-place.claims.items c.push.new.self.items c.loop-place.place c.number_at-number.result
       c.in_ok-claim.claim (omega (arith, c.loop-place-test.true, c.loop-place.auto.place-end))
       c.number_at-number.ensures c.loop-place.invariant.found
-      _
+      (found-of (program_of c.args.declared.now) c.args.structures.now c.number_at-number.result
+      c.structure_at-s.result.now c.in_ok-claim.claim c.structure_at-s.ensures
+      (subst (λ p. IsFound (program_of p) c.structure_at-s.result.now c.in_ok-claim.claim)
+      c.loop-place.invariant.same c.in_ok-claim.ensures.found))
       c.in_ok-push.ensures.items;
   same = cc;
 }

@@ -1,13 +1,13 @@
 use Rattle.std.proofs.Common.{ℕ, ◌<◌, ◌∙◌, All, List, ap, length, subst, sym}
 use Rattle.tv_model.specs.Program.{program_of}
 use Rattle.tv_structure_form.specs.StructureForm.{StructureForm}
-use Rattle.tv_losses_unmet.specs.Unmet.{AreFound}
+use Rattle.tv_losses_text.specs.Reports.{AreFound}
 use Rattle.tv_losses_text.specs.Texts.{losses_text}
 use Rattle.tv_losses_text.proofs.Parts.{all-within, any-is}
 use Rattle.tv_losses_text.proofs.report.explain_losses.Goals as goal
 
-pub first_unmet_each-requires-clause-within : goal.first_unmet_each-requires-clause-within
-first_unmet_each-requires-clause-within c =
+pub first_claims-requires-clause-within : goal.first_claims-requires-clause-within
+first_claims-requires-clause-within c =
     subst (λ (xs : List StructureForm). All (λ number. number < length xs) c.as_slice-2.result.now)
     (sym c.as_slice.ensures)
     (subst (λ (ns : List ℕ). All (λ number. number < length c.args.initial.now) ns) (sym c.as_slice-2.ensures)
@@ -25,7 +25,8 @@ returns-clause-report c =
       claims = claims;
       found = subst (λ (xs : List StructureForm). AreFound p xs losses.initial claims) c.as_slice.ensures
           (subst (λ (ns : List ℕ). AreFound p c.as_slice.result.now ns claims) c.as_slice-2.ensures
-          c.in_ok-claims.ensures);
+          (subst (λ q. AreFound (program_of q) c.as_slice.result.now c.as_slice-2.result.now claims)
+          c.in_ok-declared.ensures c.in_ok-claims.ensures));
       text = c.in_ok-text.ensures
           ∙ ap (λ found. losses_text p c.args.heads.now found losses) c.as_slice-3.ensures.value;
       any = any-is losses c.are_none.result c.are_none.ensures;
