@@ -24,9 +24,9 @@ const decoded = text => new TextDecoder().decode(Uint8Array.from(text, letter =>
 export class Explanation {
   steps = []; // of a chain: a title, and a structure, an edge or a message
   edges = []; // with their numbers, files, lines and messages
-  rules = []; // behind the edges: of each what is told, a predicate's declaration or a file and line
   nodes = []; // with structures
   losses = [];
+  unreached = []; // nodes
   stages = new Stages(); // of a step
   census = new Census();
   /** What the text says; what isn't in the grammar is a `Fault`. */
@@ -39,7 +39,7 @@ export class Explanation {
   static KINDS = [["chain", "initial "], ["losses", "initial "], ["losses", "edge "], ["edges", "edge "],
     ["losses", "node "], ["show", "node "], ["losses", "nothing is lost"], ["chain", "no message"], ["stages", "stage "]];
   line(line) {
-    const isLoss = / has no opening, by | loses \d| lists nothing$|^nothing is lost$/.test(line.source.slice(line.at, line.end));
+    const isLoss = / has no opening, by | loses \d| finds nothing at hand of \d| isn't reached$|^nothing is lost$/.test(line.source.slice(line.at, line.end));
     const begins = ([kind, word]) => line.sees(word) && isLoss === (kind === "losses");
     this.kind ??= Explanation.KINDS.find(begins)?.[0];
     switch (this.kind) {
@@ -94,21 +94,11 @@ export class Explanation {
       last.messages.push(this.string(line));
       return;
     }
-    if (last && (this.rules.length || line.sees("rule "))) return this.rule(line);
     line.take("edge ");
     const start = line.at, number = line.number(`\`${this.edges.length}\``);
     if (number !== this.edges.length) line.fault(`edge ${this.edges.length}`, start);
     line.take("  ");
     this.edges.push({ number, ...this.head(line), messages: [] });
-    if (!line.isAtEnd) line.fault("the end of the line");
-  }
-  rule(line) {
-    line.take("rule ");
-    const start = line.at, number = line.number(`\`${this.rules.length}\``);
-    if (number !== this.rules.length) line.fault(`rule ${this.rules.length}`, start);
-    line.take("  ");
-    this.rules.push(decoded(line.match(/the declaration of [A-Za-z_]\w*(?:\[[\w,]*\])?|.+?:[1-9]\d*(?=[\r\n]|$)/y,
-      "`the declaration of NAME` or `FILE:LINE`")[0]));
     if (!line.isAtEnd) line.fault("the end of the line");
   }
   shown(line) {
@@ -130,22 +120,33 @@ export class Explanation {
   loss(line) {
     const text = decoded(line.source.slice(line.at, line.end)), loss = { text };
     if (line.skips("nothing is lost")) return line.isAtEnd || line.fault("the end of the line");
+    if (line.skips("node ")) {
+      this.unreached.push(line.word("a node"));
+      line.take(" isn't reached");
+      return line.isAtEnd || line.fault("the end of the line");
+    }
     if (line.skips("initial ")) {
       loss.initial = line.number("the number of an initial structure");
       line.match(/ has no opening, by (?:the declaration of [A-Za-z_]\w*(?:\[[\w,]*\])?|rule \d+|declarations together)/y,
         "` has no opening, by ` and a declaration");
-    } else if (line.skips("node ")) {
-      loss.node = line.word("a node");
-      line.take(" lists nothing");
     } else {
       line.take("edge ");
       loss.edge = line.number("the number of an edge");
-      const [, lost, listed, first] =
-        line.match(/ loses (\d+) of (\d+) structures, first (\d+) {2}/y, "` loses LOST of LISTED structures, first PLACE`");
-      Object.assign(loss, { lost: Number(lost), listed: Number(listed), first: Number(first), head: this.head(line) });
+      Object.assign(loss, line.sees(" loses ") ? this.lostCases(line) : this.nothingAtHand(line), { head: this.head(line) });
     }
     if (!line.isAtEnd) line.fault("the end of the line");
     this.losses.push(loss);
+  }
+  lostCases(line) {
+    const [, lost, cases, first, claim] = line.match(
+      / loses (\d+) of (\d+) cases, first structure (\d+), by (the (?:update|declaration) of [A-Za-z_]\w*(?:\[[\w,]*\])?|rule \d+|(?:updates|declarations) together) {2}/y,
+      "` loses LOST of CASES cases, first structure PLACE, by ` and a claim");
+    return { lost: Number(lost), cases: Number(cases), first: Number(first), claim };
+  }
+  nothingAtHand(line) {
+    const [, without, listed] = line.match(/ finds nothing at hand of (\d+) of (\d+) structures {2}/y,
+      "` loses LOST of CASES cases` or ` finds nothing at hand of COUNT of LISTED structures`");
+    return { without: Number(without), listed: Number(listed) };
   }
 }
 

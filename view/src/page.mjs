@@ -132,8 +132,9 @@ export const Page = {
     const warned = new Map(), losses = this.given.explanations.get("losses")?.explanation.losses ?? [];
     for (const { edge, value, text } of this.report?.messages ?? [])
       warned.set(edge, [...warned.get(edge) ?? [], `message ${Kleene.text(value)}: ${text}`]);
-    for (const { edge, lost, listed } of losses)
-      if (edge !== undefined) warned.set(edge, [...warned.get(edge) ?? [], `loses ${lost} of ${listed}`]);
+    for (const { edge, lost, cases, claim, without, listed } of losses)
+      if (edge !== undefined) warned.set(edge, [...warned.get(edge) ?? [],
+        claim ? `loses ${lost} of ${cases} cases, by ${claim}` : `nothing at hand of ${without} of ${listed}`]);
     this.graph = new ControlGraph(this.names, this.edges, name => this.count(name), warned, byId("graph"));
     const hint = this.edges.length || !this.report ? "" : "Open the program's text, too, to see its edges.";
     const files = this.given.structures.map(({ listing, file }) => html("li", {},
@@ -204,15 +205,16 @@ export const Page = {
     return [html("h2", { textContent: `Compared: ${first} and ${other}` }), html("ul", {}, list(first, left), list(other, right))];
   },
   lossLines() {
-    const losses = this.given.explanations.get("losses")?.explanation.losses;
+    const { losses, unreached } = this.given.explanations.get("losses")?.explanation ?? {};
     if (!losses) return [];
-    if (!losses.length) return [html("p", { textContent: "Nothing is lost." })];
-    return [html("h2", { textContent: `Losses: ${losses.length}` }), html("ul", {}, ...losses.map(loss => this.lossLine(loss)))];
+    const nodes = unreached.length ? [html("p", { textContent: `Not reached: ${unreached.join(", ")}.` })] : [];
+    if (!losses.length) return [html("p", { textContent: "Nothing is lost." }), ...nodes];
+    return [html("h2", { textContent: `Losses: ${losses.length}` }), html("ul", {}, ...losses.map(loss => this.lossLine(loss))), ...nodes];
   },
-  lossLine({ text, node, head, first }) {
-    const item = html("li", {}, text), name = node ?? head?.source;
+  lossLine({ text, head, first }) {
+    const item = html("li", {}, text), name = head?.source;
     if (name && this.names.includes(name))
-      item.append(" – ", link(Links.structure(name, first ?? 0), head ? `${name}/${first}` : name));
+      item.append(" – ", link(Links.structure(name, first ?? 0), first === undefined ? name : `${name}/${first}`));
     return item;
   },
   /** What check said, with a link to the structure of which it speaks. */

@@ -233,7 +233,8 @@ test("what isn't in the grammar of lines is refused with line and column", async
     ["edge 1  p:2  L0 Go ( ) L1", "column 6: expected edge 0, found `1  p:2  L0 Go ( ) L1`"],
     ["node L structures 1\n1  (x)", "line 2, column 1: expected place 0 of node L, found `1  (x)`"],
     ["node L lists", "column 7: expected ` structures `, found ` lists`"],
-    ["nothing is lost\nedge 0 loses 1 of 2", "line 2, column 7: expected ` loses LOST of LISTED structures, first PLACE`, found ` loses 1 of 2`"],
+    ["nothing is lost\nedge 0 loses 1 of 2",
+      "line 2, column 7: expected ` loses LOST of CASES cases, first structure PLACE, by ` and a claim, found ` loses 1 of 2`"],
     ["what is this", "column 1: expected a line of tvla-explain, found `what is this`"],
   ];
   const told = await Promise.all(rows.map(([text]) => faultOf(text, text => Explanation.read(bytesOf(text)))));
@@ -259,10 +260,17 @@ test("the edges of docs/TUTORIAL.md are read", () => {
       [2, 11, "L3", "uninterpreted()", "L2", []], [3, 12, "L3", "uninterpreted()", "L4", []]]]];
 });
 test("the losses of docs/TUTORIAL.md are read, and `nothing is lost`", () => {
-  const { kind, losses } = Explanation.read(bytesOf(block("node L2 lists nothing"))), [first, , , last] = losses;
-  const none = Explanation.read(bytesOf("nothing is lost\n"));
-  return [[kind, losses.length, first.node, last.edge, last.lost, last.listed, last.first, last.head.source, none.kind, none.losses],
-    ["losses", 4, "L2", 0, 1, 1, 0, "L1", "losses", []]];
+  const { kind, losses: [lost, ...others], unreached } = Explanation.read(bytesOf(block("edge 0 loses")));
+  const none = Explanation.read(bytesOf("nothing is lost\nnode error isn't reached\n"));
+  return [[kind, others, unreached, lost.edge, lost.lost, lost.cases, lost.first, lost.claim, lost.head.source, none.kind, none.losses, none.unreached],
+    ["losses", [], ["L2", "L3", "L4"], 0, 1, 1, 0, "rule 5", "L1", "losses", [], ["error"]]];
+});
+test("lost cases are read with each claim, and edges that find nothing at hand", () => {
+  const claims = ["the update of r[n,x]", "the declaration of t[n]", "rule 12", "updates together", "declarations together"];
+  const lines = claims.map((claim, edge) => `edge ${edge} loses 2 of 7 cases, first structure 3, by ${claim}  p.tvp:9  L1 go ( ) L2\n`);
+  const { losses } = Explanation.read(bytesOf(lines.join("") + "edge 7 finds nothing at hand of 1 of 5 structures  p.tvp:9  L1 go ( ) L2\n"));
+  const { edge, without, listed, head } = losses.pop();
+  return [[losses.map(({ claim }) => claim), edge, without, listed, head.target], [claims, 7, 1, 5, "L2"]];
 });
 test("initial structures that are lost are read", () => [
   Explanation.read(bytesOf("initial 0 has no opening, by the declaration of r[n,x]\ninitial 1 has no opening, by rule 3\n"

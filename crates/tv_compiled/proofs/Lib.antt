@@ -1,3 +1,4 @@
 mod Alike
 mod Meanings
+mod Noted
 mod Turns

@@ -1,3 +1,4 @@
 pub mod Compiled
+pub mod Notes
 pub mod Parts
 pub mod Whole

@@ -4,6 +4,7 @@
 
 mod compiled;
 mod error;
+mod notes;
 mod parts;
 mod program;
 mod same;

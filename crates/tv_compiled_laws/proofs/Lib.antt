@@ -2,4 +2,3 @@ mod Marks
 mod Plain
 mod Lines
 mod Written
-mod Edges

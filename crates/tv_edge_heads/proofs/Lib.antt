@@ -1,8 +1,8 @@
 mod Written
-pub mod Rows
-pub mod Ends
-pub mod FormulaEnds
-pub mod ProgramEnds
+mod Rows
+mod Ends
+mod FormulaEnds
+mod ProgramEnds
 mod WidthLaws
 mod Standing
-pub mod OnLines
+mod OnLines

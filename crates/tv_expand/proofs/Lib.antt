@@ -10,5 +10,4 @@ pub mod SetTests
 pub mod IdleLaws
 pub mod ApartLaws
 pub mod CallLaws
-pub mod OriginLaws
 pub mod LimitLaws

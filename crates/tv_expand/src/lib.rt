@@ -8,7 +8,6 @@ mod error;
 mod gather;
 mod idle;
 mod laws;
-mod marks;
 mod room;
 mod sets;
 mod whole;
@@ -16,6 +15,6 @@ mod wiring;
 mod words;
 
 pub use error::ExpandError;
-pub use laws::{each_rule_has_origin, limits_are_exact};
+pub use laws::limits_are_exact;
 pub use tv_flat::{Flat, FlatAction, FlatEdge};
-pub use whole::{Expanded, expand, expand_marked};
+pub use whole::expand;

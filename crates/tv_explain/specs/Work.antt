@@ -28,7 +28,7 @@ IsDrawnWhereParted gathered drawn = (told : Option Held) (name : List ℕ) → H
 abbrev pub IsTakenFrom : (delta : Bool) → (read taken : Drawn) → Type 0
 IsTakenFrom false read taken = taken ≡ read
 IsTakenFrom true read taken = IsDifferenced (program_of read.program) (program_of taken.program)
-    × (taken.heads ≡ read.heads) × (taken.rule_lines ≡ read.rule_lines)
+    × (taken.heads ≡ read.heads)
 
 -- an analysis can take it
 pub record AreReady (inputs : Inputs) : Type 0 where

@@ -1,6 +1,5 @@
 mod Causes
 mod Coercing
-mod Picking
 mod Telling
 mod Turning
 mod Updating

@@ -5,7 +5,6 @@ mod course;
 mod fate;
 mod focus;
 mod kept;
-mod lists;
 mod stager;
 mod stages;
 mod task;

@@ -1,5 +1,0 @@
-pub mod Noted
-mod Named
-mod Steps
-mod Fronts
-mod Walk

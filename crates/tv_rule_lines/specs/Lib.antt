@@ -1,2 +1,0 @@
-pub mod RuleLines
-pub mod RuleTexts

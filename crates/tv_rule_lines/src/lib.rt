@@ -1,8 +1,0 @@
-//! The rules of a program by number, with the lines of files in which they are written.
-#![tactic(auto)]
-
-mod lines;
-mod text;
-
-pub use lines::rule_lines;
-pub use text::rules_text;
