@@ -26,7 +26,7 @@ export class Explanation {
   edges = []; // with their numbers, files, lines and messages
   nodes = []; // with structures
   losses = [];
-  unreached = []; // nodes
+  isNone = false; // whether it says that nothing is lost
   stages = new Stages(); // of a step
   census = new Census();
   /** What the text says; what isn't in the grammar is a `Fault`. */
@@ -39,7 +39,7 @@ export class Explanation {
   static KINDS = [["chain", "initial "], ["losses", "initial "], ["losses", "edge "], ["edges", "edge "],
     ["losses", "node "], ["show", "node "], ["losses", "nothing is lost"], ["chain", "no message"], ["stages", "stage "]];
   line(line) {
-    const isLoss = / has no opening, by | loses \d| finds nothing at hand of \d| isn't reached$|^nothing is lost$/.test(line.source.slice(line.at, line.end));
+    const isLoss = / has no opening| loses \d| finds nothing at hand of \d| isn't reached$|^nothing is lost$/.test(line.source.slice(line.at, line.end));
     const begins = ([kind, word]) => line.sees(word) && isLoss === (kind === "losses");
     this.kind ??= Explanation.KINDS.find(begins)?.[0];
     switch (this.kind) {
@@ -51,6 +51,8 @@ export class Explanation {
       default: line.fault("a line of tvla-explain");
     }
   }
+  /** The edges of a chain. */
+  get chainEdges() { return this.steps.flatMap(({ edge }) => edge ?? []); }
   /** The place of an edge in a program, and the edge. */
   head(line) {
     const [text, file, number, source, name, given, target] = line.match(HEAD, "`FILE:LINE`, two blanks and an edge");
@@ -119,34 +121,39 @@ export class Explanation {
   }
   loss(line) {
     const text = decoded(line.source.slice(line.at, line.end)), loss = { text };
-    if (line.skips("nothing is lost")) return line.isAtEnd || line.fault("the end of the line");
-    if (line.skips("node ")) {
-      this.unreached.push(line.word("a node"));
-      line.take(" isn't reached");
+    if (!this.losses.length && !this.isNone && line.skips("nothing is lost")) {
+      this.isNone = true;
       return line.isAtEnd || line.fault("the end of the line");
     }
-    if (line.skips("initial ")) {
+    if (line.skips("node ")) {
+      loss.node = line.word("a node");
+      line.take(" isn't reached");
+    } else if (this.isNone || this.losses.at(-1)?.node) line.fault("`node `");
+    else if (line.skips("initial ")) {
       loss.initial = line.number("the number of an initial structure");
-      line.match(/ has no opening, by (?:the declaration of [A-Za-z_]\w*(?:\[[\w,]*\])?|rule \d+|declarations together)/y,
-        "` has no opening, by ` and a declaration");
-    } else {
-      line.take("edge ");
-      loss.edge = line.number("the number of an edge");
-      Object.assign(loss, line.sees(" loses ") ? this.lostCases(line) : this.nothingAtHand(line), { head: this.head(line) });
-    }
+      line.take(" has no opening");
+      this.claim(line);
+    } else this.edgeLoss(line, loss);
     if (!line.isAtEnd) line.fault("the end of the line");
     this.losses.push(loss);
   }
-  lostCases(line) {
-    const [, lost, cases, first, claim] = line.match(
-      / loses (\d+) of (\d+) cases, first structure (\d+), by (the (?:update|declaration) of [A-Za-z_]\w*(?:\[[\w,]*\])?|rule \d+|(?:updates|declarations) together) {2}/y,
-      "` loses LOST of CASES cases, first structure PLACE, by ` and a claim");
-    return { lost: Number(lost), cases: Number(cases), first: Number(first), claim };
+  claim(line) {
+    line.take(", by ");
+    return line.match(/the (?:declaration|update) of [A-Za-z_]\w*(?:\[[\w,]*\])?|rule \d+|(?:declarations|updates) together/y, "a declaration or an update")[0];
   }
-  nothingAtHand(line) {
-    const [, without, listed] = line.match(/ finds nothing at hand of (\d+) of (\d+) structures {2}/y,
-      "` loses LOST of CASES cases` or ` finds nothing at hand of COUNT of LISTED structures`");
-    return { without: Number(without), listed: Number(listed) };
+  /** Cases that are lost along an edge, or structures of which nothing is at hand there. */
+  edgeLoss(line, loss) {
+    line.take("edge ");
+    loss.edge = line.number("the number of an edge");
+    const [, count, all] = line.match(/ (?:loses|finds nothing at hand of) (\d+) of (\d+)/y, "` loses LOST of CASES cases` or ` finds nothing at hand of COUNT of LISTED structures`");
+    if (line.skips(" structures")) loss.short = `finds nothing at hand of ${count} of ${all} structures`;
+    else {
+      line.take(" cases, first structure ");
+      loss.first = line.number("the place of a structure");
+      loss.short = `loses ${count} of ${all} cases, by ${this.claim(line)}`;
+    }
+    line.take("  ");
+    loss.head = this.head(line);
   }
 }
 

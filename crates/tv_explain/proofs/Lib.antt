@@ -8,4 +8,5 @@ mod EdgesKept
 mod EdgesWired
 mod Endings
 mod Silence
+mod Steps
 mod Trees

@@ -1,5 +1,5 @@
-mod Answering
-mod Casing
 mod Exactly
 mod Losing
+mod Searching
 mod Telling
+mod Answering

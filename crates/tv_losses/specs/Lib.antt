@@ -1,2 +1,4 @@
+pub mod Cases
+pub mod Enabled
 pub mod Losses
 pub mod Tasks

@@ -14,34 +14,33 @@ use crate::edges::lost_edges;
 use crate::task::Task;
 use crate::told::Losses;
 use std::alloc::Global;
-use tv_losses_cases::Trier;
 use tv_model::{Mode, Program};
+use tv_step::Stepper;
 use tv_struct::Structures;
 use tv_work::{WorkError, analyze};
 
 /// The losses of what is listed.
-fn losses_in(x: &Task, trier: &mut Trier) -> Result<Losses, WorkError>
-    requires { IsReady x.now trier.old }
+fn losses_in(x: &Task, stepper: &mut Stepper) -> Result<Losses, WorkError>
+    requires { IsReady x.now stepper.old }
     ensures losses { IfOk result
         (AreLossesIn (program_of x.now.program.now) x.now.mode x.now.initial.now x.now.listing.now) }
     ensures cause { IfErr result (IsLossCause x.now) }
 {
-    let initial = unopened(x, trier)?;
-    let edges = lost_edges(x, trier)?;
+    let initial = unopened(x, stepper)?;
     let nodes = empty_nodes(x)?;
+    let edges = lost_edges(x, stepper)?;
     Ok(Losses {
         initial,
-        edges,
         nodes,
+        edges,
     })
 }
 
 /// What the analysis of the program from these initial structures may owe its silence to: the initial
-/// structures without an opening, and the edges along which a case of a listed structure is lost, or nothing
-/// is at hand of one; and the nodes at which nothing is listed. A case is a structure at hand, with
-/// individuals under which the precondition is `Yes`; it is lost where rules drop all that its update gives.
-/// Errors are those of the analysis: `Structures` only where over `max` structures are reached, `Splits` and
-/// `Individuals` only where the step of a reached structure meets that budget.
+/// structures without an opening, the nodes at which nothing is listed, and the edges along which listed
+/// structures give nothing although their action is surely enabled. Errors are those of the analysis:
+/// `Structures` only where over `max` structures are reached, `Splits` and `Individuals` only where the step
+/// of a reached structure meets that budget.
 pub fn losses(
     alloc: Global,
     program: &Program,
@@ -56,7 +55,7 @@ pub fn losses(
         (IsReached (program_of program.now) mode initial.now)) }
 {
     let analysis = analyze(alloc, program, initial, mode, max)?;
-    let mut trier = Trier::new(alloc, program, mode)?;
+    let mut stepper = Stepper::new(alloc, program, mode)?;
     let task = Task {
         alloc,
         program,
@@ -64,5 +63,5 @@ pub fn losses(
         initial: initial.as_slice(),
         listing: &analysis.listing,
     };
-    losses_in(&task, &mut trier)
+    losses_in(&task, &mut stepper)
 }

@@ -1,40 +1,56 @@
-//! Edges along which something is lost.
+//! Edges along which structures are lost.
 
-ghost use Rattle.std.specs.Prelude.{◌≡◌, ◌∷◌, [], ◌++◌, IfOk, IfErr, OnOk};
+ghost use Rattle.std.specs.Prelude.{◌≡◌, ◌++◌, [], IfOk, IfErr, IfSome, IfNone, OnOk};
 ghost use Rattle.tv_model.specs.Program.{program_of};
-ghost use Rattle.tv_losses.specs.Losses.{AreEdgeLosses, LosesAlong};
-ghost use Rattle.tv_losses.specs.Tasks.{IsLossCause, IsReady};
+ghost use Rattle.tv_losses.specs.Losses.{AreEdgeLosses};
+ghost use Rattle.tv_losses.specs.Tasks.{IsLossCause, IsReady, Tells, list_of};
 
-use crate::along::edge_loss;
+use crate::along::lost_along;
 use crate::task::Task;
 use crate::told::{EdgeLoss, EdgeLosses};
 use std::alloc::AllocError;
-use tv_losses_cases::Trier;
 use tv_model::Items;
+use tv_step::Stepper;
 use tv_work::WorkError;
 
-/// Puts what is told of an edge behind the others, if something is lost there.
-fn push_any(losses: &mut EdgeLosses, loss: EdgeLoss) -> Result<(), AllocError>
-    ensures more { OnOk result (LosesAlong loss → losses.new ≡ losses.old ++ loss ∷ []) }
-    ensures less { OnOk result ((¬ LosesAlong loss) → losses.new ≡ losses.old) }
+/// What is told of an edge, at whose source so many structures are listed, where those at these places are
+/// lost: nothing where there are none.
+fn loss_of(edge: u32, listed: usize, places: &[usize]) -> Option<EdgeLoss>
+    ensures some { IfSome result (Tells edge listed places.now) }
+    ensures none { IfNone result (places.now ≡ []) }
 {
-    if !loss.is_any() {
-        return Ok(());
-    }
-    losses.push(loss)
+    let first = places.first()?;
+    Some(EdgeLoss {
+        edge,
+        lost: places.len(),
+        listed,
+        first: *first,
+    })
 }
 
-/// The edges along which something is lost, in order.
-pub(crate) fn lost_edges(x: &Task, trier: &mut Trier) -> Result<EdgeLosses, WorkError>
-    requires ready { IsReady x.now trier.old }
+/// Puts what is told behind the others, if anything is.
+fn push_some(losses: &mut EdgeLosses, loss: Option<EdgeLoss>) -> Result<(), AllocError>
+    ensures { OnOk result (losses.new ≡ losses.old ++ list_of loss) }
+{
+    match loss {
+        None => Ok(()),
+        Some(loss) => losses.push(loss),
+    }
+}
+
+/// The edges along which structures are lost, in order.
+pub(crate) fn lost_edges(x: &Task, stepper: &mut Stepper) -> Result<EdgeLosses, WorkError>
+    requires ready { IsReady x.now stepper.old }
     ensures losses { IfOk result (AreEdgeLosses (program_of x.now.program.now) x.now.mode x.now.listing.now) }
     ensures cause { IfErr result (IsLossCause x.now) }
-    ensures same { trier.new ≡ trier.old }
+    ensures same { stepper.new ≡ stepper.old }
 {
     let mut losses = Items::new(x.alloc);
     for (number, edge) in x.program.edges.as_slice().iter().enumerate() {
-        let loss = edge_loss(x, number as u32, *edge, trier)?;
-        push_any(&mut losses, loss)?;
+        let places = lost_along(x, number as u32, *edge, stepper)?;
+        let listed = x.listing.count(edge.from);
+        let loss = loss_of(number as u32, listed, places.as_slice());
+        push_some(&mut losses, loss)?;
     }
     Ok(losses)
 }

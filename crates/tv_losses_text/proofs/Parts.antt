@@ -1,8 +1,7 @@
 -- Texts part by part, and what is said of no losses.
-use Rattle.std.proofs.Common.{ℕ, ◌≡◌, ◌≢◌, ◌∙◌, ◌↔◌, Bool, true, false, true≢false, IsTrue, List, [], ◌∷◌, ◌++◌}
+use Rattle.std.proofs.Common.{ℕ, ◌≡◌, ◌∙◌, ◌↔◌, Bool, true, false, true≢false, IsTrue, List, [], ◌∷◌, ◌++◌}
 use Rattle.std.proofs.Common.{◌<◌, ◌+◌, refl, All, Option, Some, arith, drop, get_or, length, slice_get}
 use Rattle.std.specs.Prelude.{suc, zero}
-use Rattle.std.proofs.lemmas.List.{append-nil}
 use Rattle.std.proofs.lemmas.List.Elements.{Contains-get_or}
 use Rattle.std.proofs.lemmas.Option.{none-some, same_Some, slice_get_within}
 use Rattle.tv_model.specs.Program.{ProgramForm}
@@ -10,11 +9,12 @@ use Rattle.tv_structure_form.specs.StructureForm.{StructureForm}
 use Rattle.tv_losses_unmet.specs.declared.claim.Claim.{Claim}
 use Rattle.tv_losses.specs.Losses.{AreExactly, HasNoOpeningAt}
 use Rattle.std.proofs.Common.{sym, ap, append_assoc}
-use Rattle.std.specs.Prelude.{codes, Result, Ok, Err, OnOk, is_ok, not, if◌then◌else◌}
+use Rattle.std.specs.Prelude.{Result, Ok, Err, OnOk, is_ok, not, if◌then◌else◌}
 use Rattle.tv_losses.specs.declared.told.EdgeLoss.{EdgeLoss}
 use Rattle.tv_losses.specs.declared.told.Losses.{Losses}
 use Rattle.tv_losses_text.specs.Reports.{AreNone}
-use Rattle.tv_losses_text.specs.Texts.{claim_in, initial_loss, initial_losses, nowhere_line, nowhere_told, said_of}
+use Rattle.tv_losses_text.specs.Texts.{claim_in, edge_losses, initial_loss, initial_losses, lost_lines}
+use Rattle.tv_losses_text.specs.Texts.{node_losses, said_of}
 
 -- the last part of a text
 pub ended : {U E : Type 0} (r : Result U E) (old mid new a b : List ℕ) → mid ≡ old ++ a
@@ -30,22 +30,6 @@ closed (Ok u) old one two three new a b c d first second third is =
     is ∙ ap (λ xs. xs ++ d) third ∙ ap (λ xs. (xs ++ c) ++ d) second ∙ ap (λ xs. ((xs ++ b) ++ c) ++ d) first
     ∙ append_assoc ((old ++ a) ++ b) c d ∙ append_assoc (old ++ a) b (c ++ d) ∙ append_assoc old a (b ++ (c ++ d))
 closed (Err e) old one two three new a b c d first second third is = tt
-
--- a text that may fail, in another form
-pub told-as : {U E : Type 0} (r : Result U E) (old new a b : List ℕ) → new ≡ (if is_ok r then old ++ a else old)
-    → b ≡ a → OnOk r (new ≡ old ++ b)
-told-as (Ok u) old new a b is same = is ∙ ap (λ xs. old ++ xs) (sym same)
-told-as (Err e) old new a b is same = tt
-
-pub nowhere-none : (heads : List (List ℕ)) (edge without listed : ℕ) (out : List ℕ) → without ≡ 0
-    → out ≡ out ++ nowhere_line heads edge without listed
-nowhere-none heads edge zero listed out none = sym (append-nil out)
-nowhere-none heads edge (suc n) listed out none = absurd (omega (arith, none))
-
-pub nowhere-some : (heads : List (List ℕ)) (edge without listed : ℕ) → without ≢ 0
-    → nowhere_told heads edge without listed ≡ nowhere_line heads edge without listed
-nowhere-some heads edge zero listed some = absurd (some refl)
-nowhere-some heads edge (suc n) listed some = refl
 
 -- a last part that may fail
 pub rest : {U E : Type 0} (r : Result U E) (old mid new a b : List ℕ) → mid ≡ old ++ a → OnOk r (new ≡ mid ++ b)
@@ -78,25 +62,22 @@ losses-next p claims numbers place number claim out new all at of is before =
     rest_of : List ℕ
     rest_of = initial_losses p claims (suc place) (drop (suc place) numbers)
 
--- where something is lost, the lines of it are said
-pub said-some : (losses : Losses) (lines : List ℕ) (r : Bool)
-    → IsTrue r ↔ ((losses.initial ≡ []) × (losses.edges ≡ [])) → r ≡ false
-    → said_of losses.initial losses.edges lines ≡ lines
-said-some losses lines r tells isnt =
-    by losses.initial losses.edges (λ none. true≢false (sym (tells.1 none) ∙ isnt))
-  where
-    by : (initial : List ℕ) (edges : List EdgeLoss) → ¬ ((initial ≡ []) × (edges ≡ []))
-        → said_of initial edges lines ≡ lines
-    by [] [] some = absurd (some (refl, refl))
-    by [] (loss ∷ edges) some = refl
-    by (number ∷ initial) edges some = refl
+said-lines : (p : ProgramForm) (heads : List (List ℕ)) (claims : List (Option Claim)) (initial nodes : List ℕ)
+    (losses : List EdgeLoss) → ¬ ((initial ≡ []) × (nodes ≡ []) × (losses ≡ []))
+    → said_of (initial_losses p claims 0 initial ++ (node_losses p.nodes nodes ++ edge_losses heads losses))
+    ≡ initial_losses p claims 0 initial ++ (node_losses p.nodes nodes ++ edge_losses heads losses)
+said-lines p heads claims (n ∷ ns) nodes losses some = refl
+said-lines p heads claims [] (n ∷ ns) losses some = refl
+said-lines p heads claims [] [] (l ∷ ls) some = refl
+said-lines p heads claims [] [] [] some = absurd (some (refl, refl, refl))
 
--- else that nothing is
-pub said-none : (losses : Losses) (lines : List ℕ) → (losses.initial ≡ []) × (losses.edges ≡ [])
-    → said_of losses.initial losses.edges lines ≡ codes "nothing is lost\n"
-said-none losses lines (none, too) =
-    ap (λ (numbers : List ℕ). said_of numbers losses.edges lines) none
-    ∙ ap (λ (edges : List EdgeLoss). said_of [] edges lines) too
+-- where something is lost, the lines of it are said
+pub said-some : (p : ProgramForm) (heads : List (List ℕ)) (claims : List (Option Claim)) (losses : Losses)
+    (r : Bool) → IsTrue r ↔ ((losses.initial ≡ []) × (losses.nodes ≡ []) × (losses.edges ≡ [])) → r ≡ false
+    → said_of (lost_lines p heads claims losses) ≡ lost_lines p heads claims losses
+said-some p heads claims losses r tells isnt =
+    said-lines p heads claims losses.initial losses.nodes losses.edges
+    (λ none. true≢false (sym (tells.1 none) ∙ isnt))
 
 -- numbers of initial structures without an opening are within
 pub all-within : (p : ProgramForm) (initial : List StructureForm) (numbers : List ℕ)
@@ -105,13 +86,18 @@ all-within p initial numbers are k d lt =
     let at = (are.each (get_or numbers k d)).0 (Contains-get_or numbers k d lt)
     in slice_get_within initial (get_or numbers k d) at.0 at.1
 
-pub any-is : (losses : Losses) (r : Bool) → IsTrue r ↔ ((losses.initial ≡ []) × (losses.edges ≡ []))
+pub any-is : (losses : Losses) (r : Bool)
+    → IsTrue r ↔ ((losses.initial ≡ []) × (losses.nodes ≡ []) × (losses.edges ≡ []))
     → IsTrue (not r) ↔ (¬ AreNone losses)
 any-is losses true tells = (
   λ e. absurd (true≢false (sym e)),
-  λ some. let all = tells.0 refl in absurd (some (record { no_initial = all.0; no_edges = all.1 })),
+  λ some. let all = tells.0 refl in absurd (some (record {
+    no_initial = all.0;
+    no_nodes = all.1;
+    no_edges = all.2;
+  })),
 )
 any-is losses false tells = (
-  λ e none. true≢false (sym (tells.1 (none.no_initial, none.no_edges))),
+  λ e none. true≢false (sym (tells.1 (none.no_initial, none.no_nodes, none.no_edges))),
   λ some. refl,
 )

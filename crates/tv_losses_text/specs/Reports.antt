@@ -21,9 +21,10 @@ abbrev pub AreFound : ProgramForm → (structures : List StructureForm) → (num
     → List (Option Claim) → Type 0
 AreFound p structures numbers found = AllZip (IsFoundOf p structures) numbers found
 
--- nothing is lost: neither an initial structure, nor a case or a structure at hand along an edge
+-- nothing is lost
 pub record AreNone (losses : Losses) : Type 0 where
   pub no_initial : losses.initial ≡ []
+  pub no_nodes : losses.nodes ≡ []
   pub no_edges : losses.edges ≡ []
 
 -- the report is on the losses of the analysis, and tells of each initial structure without an opening the

@@ -25,10 +25,10 @@ pub struct LossReport {
 }
 
 /// What the analysis of the program from these initial structures may owe its silence to, each loss in one
-/// line, and whether there is any; behind these the nodes that aren't reached. Of an initial structure without
-/// an opening the first declaration is told that it contradicts alone, if there is one. The heads are those of
-/// the program's edges. Errors are those of the analysis: `Structures` only where over `max` structures are
-/// reached, `Splits` and `Individuals` only where the step of a reached structure meets that budget.
+/// line, and whether there is any; of an initial structure without an opening the first declaration that it
+/// contradicts alone, if there is one. The heads are those of the program's edges. Errors are those of the
+/// analysis: `Structures` only where over `max` structures are reached, `Splits` and `Individuals` only where
+/// the step of a reached structure meets that budget.
 pub fn explain_losses(
     alloc: Global,
     program: &Program,

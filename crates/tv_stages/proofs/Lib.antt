@@ -1,5 +1,6 @@
 mod Causes
 mod Coercing
+mod Picking
 mod Telling
 mod Turning
 mod Updating

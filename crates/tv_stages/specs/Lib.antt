@@ -1,2 +1,3 @@
+pub mod Lists
 pub mod Tasks
 pub mod Turns

@@ -5,6 +5,7 @@ mod course;
 mod fate;
 mod focus;
 mod kept;
+mod lists;
 mod stager;
 mod stages;
 mod task;

@@ -10,9 +10,9 @@ ghost use Rattle.tv_stages.specs.Tasks.{CanUpdate, IsCourse, IsReadyToRecord, co
 
 use crate::course::{Case, Course, precondition, update};
 use crate::fate::given_each;
+use crate::lists::{Lists, all_lists, assigned};
 use crate::task::{Task, Tools};
 use tv_model::Items;
-use tv_pick_lists::{Lists, all_lists, assigned};
 use tv_stages_laws::{Picked, PickedUpdate, PickedUpdates, UpdatedAt, UpdatedEach};
 use tv_struct::{StageError, Structure, Structures};
 

@@ -24,9 +24,15 @@ const FREE_OF_BOTH: [(&str, &str); 2] = [
     ),
 ];
 
-/// No structure is left behind the action: where its precondition is 1/2 that is no loss.
+/// No structure is left behind the action: whether that is a loss depends on its precondition.
 const GUARDED: &str = "%p x(v) unique %p b() %r b() ==> 0 %%
 %action set() { %p E(v) x(v) { b() = 1 } } %% L1 set() L2";
+
+const FOCUSED: &str = "%p x(v) unique %p b() %r b() ==> 0 %%
+%action set() { %f { x(v) } %p E(v) x(v) { b() = 1 } } %% L1 set() L2";
+
+const PICKED: &str = "%p x(v) unique %p b() %r b() ==> 0 %%
+%action set() { %p x(v) & !x(w) { b() = 1 } } %% L1 set() L2";
 
 /// Rules against each of two predicates.
 const EXCLUDED: &str = "%p x(v) unique %p b() %p c() %r c() ==> 0 %r b() ==> 0 %%
@@ -47,7 +53,7 @@ const LOST: Row<'static, 'static, 'static, 'static> = Row {
     ..PLAIN
 };
 
-static LOSSES: [Row<'static, 'static, 'static, 'static>; 15] = [
+static LOSSES: [Row<'static, 'static, 'static, 'static>; 20] = [
     Row {
         files: &[("p", DEFINED), ("i", "%n = {a} %p = { x = {a} some = 1 }")],
         ..NOTHING
@@ -56,8 +62,8 @@ static LOSSES: [Row<'static, 'static, 'static, 'static>; 15] = [
     Row {
         files: &[("p", DEFINED), ("i", "%n = {a} %p = { x = {a} }")],
         out: "initial 0 has no opening, by the declaration of some
-node L1 isn't reached
-node L2 isn't reached
+node L1 lists nothing
+node L2 lists nothing
 ",
         ..LOST
     },
@@ -82,7 +88,7 @@ initial 2 has no opening, by the declaration of some
         ],
         out: "initial 0 has no opening, by rule 2
 initial 1 has no opening, by rule 1
-node L isn't reached
+node L lists nothing
 ",
         ..LOST
     },
@@ -90,7 +96,7 @@ node L isn't reached
     Row {
         files: &[("p", NEITHER), ("i", "%n = {} %p = { b = 1/2 }")],
         out: "initial 0 has no opening, by declarations together
-node L isn't reached
+node L lists nothing
 ",
         ..LOST
     },
@@ -100,13 +106,13 @@ node L isn't reached
             ("p", CYCLE),
             ("i", "%n = {a, b} %p = { x = {a} } %n = {a} %p = { }"),
         ],
-        out: "edge 0 loses 1 of 2 cases, first structure 1, by rule 2  p:2  L1 x_n_is_x ( ) L2\n",
+        out: "edge 0 loses 1 of 2 structures, first 1  p:2  L1 x_n_is_x ( ) L2\n",
         ..LOST
     },
     Row {
         files: &[("p", CYCLE), ("i", "%n = {a} %p = { x = {a} }")],
-        out: "edge 0 loses 1 of 1 cases, first structure 0, by rule 2  p:2  L1 x_n_is_x ( ) L2
-node L2 isn't reached
+        out: "node L2 lists nothing
+edge 0 loses 1 of 1 structures, first 0  p:2  L1 x_n_is_x ( ) L2
 ",
         ..LOST
     },
@@ -117,8 +123,8 @@ node L2 isn't reached
     // `r` stays true of the second cell, which nothing reaches any more
     Row {
         files: &FREE_OF_BOTH,
-        out: "edge 0 loses 1 of 1 cases, first structure 0, by the update of r  p:2  L1 free ( ) L2
-node L2 isn't reached
+        out: "node L2 lists nothing
+edge 0 loses 1 of 1 structures, first 0  p:2  L1 free ( ) L2
 ",
         ..LOST
     },
@@ -143,23 +149,68 @@ node L2 isn't reached
         ],
         ..NOTHING
     },
+    // the precondition is 1/2
     Row {
         files: &[("p", GUARDED), ("i", "%n = {a} %p = { x = {a:1/2} }")],
-        out: "nothing is lost\nnode L2 isn't reached\n",
-        ..NOTHING
+        out: "node L2 lists nothing\n",
+        ..LOST
+    },
+    // it is 1
+    Row {
+        files: &[
+            ("p", GUARDED),
+            (
+                "i",
+                "%n = {a} %p = { x = {a} } %n = {a, b} %p = { x = {a} }",
+            ),
+        ],
+        out: "node L2 lists nothing
+edge 0 loses 2 of 2 structures, first 0  p:2  L1 set ( ) L2
+",
+        ..LOST
+    },
+    // it is 1/2, and 1 behind focus
+    Row {
+        files: &[("p", FOCUSED), ("i", "%n = {a} %p = { x = {a:1/2} }")],
+        out: "node L2 lists nothing
+edge 0 loses 1 of 1 structures, first 0  p:2  L1 set ( ) L2
+",
+        ..LOST
+    },
+    // it is 1 where the two cells are picked, each in its place
+    Row {
+        files: &[("p", PICKED), ("i", "%n = {a, b} %p = { x = {a} }")],
+        out: "node L2 lists nothing
+edge 0 loses 1 of 1 structures, first 0  p:2  L1 set ( ) L2
+",
+        ..LOST
+    },
+    // and nowhere
+    Row {
+        files: &[
+            ("p", PICKED),
+            ("i", "%n = {a, b} %p = { x = {a:1/2, b:1/2} }"),
+        ],
+        out: "node L2 lists nothing\n",
+        ..LOST
+    },
+    Row {
+        files: &[("p", PICKED), ("i", "%n = {a, b} %p = { }")],
+        out: "node L2 lists nothing\n",
+        ..LOST
     },
     // no initial structure at all
     Row {
         files: &[("p", DEFINED), ("i", "")],
-        out: "nothing is lost\nnode L1 isn't reached\nnode L2 isn't reached\n",
-        ..NOTHING
+        out: "node L1 lists nothing\nnode L2 lists nothing\n",
+        ..LOST
     },
     // a loss that can't be written is told as a write fault
     Row {
-        files: &FREE_OF_BOTH,
+        files: &[("p", GUARDED), ("i", "%n = {a} %p = { x = {a:1/2} }")],
         out_fail: &[2],
         code: 6,
-        out: "edge 0 los",
+        out: "node L2 li",
         err: "tvla-explain: write fault\n",
         ..LOST
     },

@@ -11,7 +11,7 @@ losses_in-requires c =
     let exact = c.in_ok-analysis.ensures.exact
     in record {
       valid = c.requires.valid;
-      made = c.in_ok-trier.ensures;
+      made = c.in_ok-stepper.ensures;
       initial = subst (All (IsOver c.args.program.now.vocab)) (sym c.as_slice.ensures) c.requires.initial;
       nodes = exact.nodes;
       over = c.in_ok-analysis.ensures.over;

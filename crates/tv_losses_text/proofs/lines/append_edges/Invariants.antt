@@ -1,9 +1,7 @@
 use Rattle.std.proofs.Common.{◌≡◌, ◌++◌, drop}
-use Rattle.tv_model.specs.Program.{program_of}
 use Rattle.tv_losses_text.specs.Texts.{edge_losses}
 use Rattle.tv_losses_text.proofs.lines.append_edges.Given as goal
 
 abbrev pub invariant-loop-loss : goal.invariant-loop-loss
 invariant-loop-loss l =
-    l.out.items ++ edge_losses (program_of l.of) l.heads (drop l.loss-index l.losses)
-    ≡ l.fn.out.items ++ edge_losses (program_of l.of) l.heads l.losses
+    l.out.items ++ edge_losses l.heads (drop l.loss-index l.losses) ≡ l.fn.out.items ++ edge_losses l.heads l.losses
