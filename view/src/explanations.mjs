@@ -26,7 +26,6 @@ export class Explanation {
   edges = []; // with their numbers, files, lines and messages
   nodes = []; // with structures
   losses = [];
-  isNone = false; // whether it says that nothing is lost
   stages = new Stages(); // of a step
   census = new Census();
   /** What the text says; what isn't in the grammar is a `Fault`. */
@@ -39,7 +38,7 @@ export class Explanation {
   static KINDS = [["chain", "initial "], ["losses", "initial "], ["losses", "edge "], ["edges", "edge "],
     ["losses", "node "], ["show", "node "], ["losses", "nothing is lost"], ["chain", "no message"], ["stages", "stage "]];
   line(line) {
-    const isLoss = / has no opening| loses \d| finds nothing at hand of \d| isn't reached$|^nothing is lost$/.test(line.source.slice(line.at, line.end));
+    const isLoss = / has no opening, by | loses \d| lists nothing$|^nothing is lost$/.test(line.source.slice(line.at, line.end));
     const begins = ([kind, word]) => line.sees(word) && isLoss === (kind === "losses");
     this.kind ??= Explanation.KINDS.find(begins)?.[0];
     switch (this.kind) {
@@ -51,8 +50,6 @@ export class Explanation {
       default: line.fault("a line of tvla-explain");
     }
   }
-  /** The edges of a chain. */
-  get chainEdges() { return this.steps.flatMap(({ edge }) => edge ?? []); }
   /** The place of an edge in a program, and the edge. */
   head(line) {
     const [text, file, number, source, name, given, target] = line.match(HEAD, "`FILE:LINE`, two blanks and an edge");
@@ -61,7 +58,9 @@ export class Explanation {
   }
   step(line) {
     if (!this.steps.length && line.skips("no message")) return line.isAtEnd || line.fault("the end of the line");
-    const isFirst = !this.steps.length, start = line.at;
+    const isFirst = !this.steps.length, start = line.at, last = this.steps.at(-1);
+    if (last?.message && line.skips("at hand")) return this.steps.push({ title: "at hand", structure: line.structure(), isAtHand: true });
+    if (last?.message || last?.isAtHand) line.fault("no line behind a message and what raises it", start);
     line.take(isFirst ? "initial " : "edge ");
     const number = line.number("a number"), step = { number, isInitial: isFirst };
     if (!isFirst) {
@@ -69,7 +68,6 @@ export class Explanation {
       step.edge = { number, ...this.head(line) };
     }
     step.title = decoded(line.source.slice(start, line.at));
-    if (this.steps.at(-1)?.message) line.fault("no line behind a message", start);
     if (!isFirst && line.sees("  message ")) step.message = this.raised(line);
     else step.structure = line.structure();
     this.steps.push(step);
@@ -121,39 +119,23 @@ export class Explanation {
   }
   loss(line) {
     const text = decoded(line.source.slice(line.at, line.end)), loss = { text };
-    if (!this.losses.length && !this.isNone && line.skips("nothing is lost")) {
-      this.isNone = true;
-      return line.isAtEnd || line.fault("the end of the line");
-    }
-    if (line.skips("node ")) {
-      loss.node = line.word("a node");
-      line.take(" isn't reached");
-    } else if (this.isNone || this.losses.at(-1)?.node) line.fault("`node `");
-    else if (line.skips("initial ")) {
+    if (line.skips("nothing is lost")) return line.isAtEnd || line.fault("the end of the line");
+    if (line.skips("initial ")) {
       loss.initial = line.number("the number of an initial structure");
-      line.take(" has no opening");
-      this.claim(line);
-    } else this.edgeLoss(line, loss);
+      line.match(/ has no opening, by (?:the declaration of [A-Za-z_]\w*(?:\[[\w,]*\])?|rule \d+|declarations together)/y,
+        "` has no opening, by ` and a declaration");
+    } else if (line.skips("node ")) {
+      loss.node = line.word("a node");
+      line.take(" lists nothing");
+    } else {
+      line.take("edge ");
+      loss.edge = line.number("the number of an edge");
+      const [, lost, listed, first] =
+        line.match(/ loses (\d+) of (\d+) structures, first (\d+) {2}/y, "` loses LOST of LISTED structures, first PLACE`");
+      Object.assign(loss, { lost: Number(lost), listed: Number(listed), first: Number(first), head: this.head(line) });
+    }
     if (!line.isAtEnd) line.fault("the end of the line");
     this.losses.push(loss);
-  }
-  claim(line) {
-    line.take(", by ");
-    return line.match(/the (?:declaration|update) of [A-Za-z_]\w*(?:\[[\w,]*\])?|rule \d+|(?:declarations|updates) together/y, "a declaration or an update")[0];
-  }
-  /** Cases that are lost along an edge, or structures of which nothing is at hand there. */
-  edgeLoss(line, loss) {
-    line.take("edge ");
-    loss.edge = line.number("the number of an edge");
-    const [, count, all] = line.match(/ (?:loses|finds nothing at hand of) (\d+) of (\d+)/y, "` loses LOST of CASES cases` or ` finds nothing at hand of COUNT of LISTED structures`");
-    if (line.skips(" structures")) loss.short = `finds nothing at hand of ${count} of ${all} structures`;
-    else {
-      line.take(" cases, first structure ");
-      loss.first = line.number("the place of a structure");
-      loss.short = `loses ${count} of ${all} cases, by ${this.claim(line)}`;
-    }
-    line.take("  ");
-    loss.head = this.head(line);
   }
 }
 

@@ -4,7 +4,7 @@ import { byId, html, button, link } from "./dom.mjs";
 import { Links } from "./links.mjs";
 import { Given } from "./files.mjs";
 import { ShownListing } from "./explanations.mjs";
-import { firstDifference, differentArity, differentEdge, differentPredicate } from "./fits.mjs";
+import { firstDifference, differentEdge, differentPredicate } from "./fits.mjs";
 import { Program } from "./programs.mjs";
 import { Roles } from "./roles.mjs";
 import { Line } from "./lines.mjs";
@@ -16,6 +16,7 @@ import { ControlGraph, GRAPH_STYLE } from "./graph.mjs";
 import { Search } from "./search.mjs";
 import { Large, save } from "./large.mjs";
 import { chainFrames, replayFrames, runFrames } from "./film.mjs";
+import { stageFrames } from "./stages.mjs";
 import { Runs } from "./runs.mjs";
 import { pairsOf, messagesAlone } from "./compare.mjs";
 
@@ -49,43 +50,27 @@ export const Page = {
   },
   /** Finds out what belongs together. */
   gather() {
-    const { given } = this, of = kind => given.explanations.get(kind)?.explanation, show = of("show"), told = of("edges")?.edges;
+    const { given } = this, show = given.explanations.get("show")?.explanation;
     this.report = given.reports[0]?.listing ?? (show ? new ShownListing(show) : null);
-    given.choose(program => (this.report ? firstDifference(program, this.report) : "") || (told ? differentEdge(program, told) : "")
-      || (this.report ? "" : Page.differentRest(program, given)));
+    const chain = given.explanations.get("chain")?.explanation, told = given.explanations.get("edges")?.explanation.edges;
+    const chainEdges = chain?.steps.flatMap(({ edge }) => edge ?? []) ?? [];
+    given.choose(program => (this.report ? firstDifference(program, this.report) : "")
+      || (told ? differentEdge(program, told) : "")
+      || (!this.report && chain ? differentEdge(program, chainEdges) || differentPredicate(program, chain.census) : ""));
     this.program = given.program ?? (told ? this.programOfEdges(told) : null);
     this.edges = (this.program?.edges ?? []).map((edge, i) => told ? { ...edge, file: told[i].file } : edge);
     if (this.program?.missing.length)
       given.problems.push(`Included files that weren't given: ${this.program.missing.join(", ")}.`);
-    const known = new Map([...this.program?.predicates.values() ?? [], ...this.report?.census.facts.values() ?? []].map(fact => [fact.name, fact]));
-    this.gatherSecond(known);
-    this.structures = given.structures.filter(({ file, listing }) => this.agrees(known, listing.census, `${file.path} isn't shown`));
+    if (this.second && [...this.second.nodes.keys()].join() !== [...this.report.nodes.keys()].join()) {
+      given.problems.push(`${given.reports[1].file.path} isn't compared: its nodes aren't those of ${given.reports[0].file.path}.`);
+      given.reports.pop();
+    }
     if (this.report && !this.report.places.length) given.problems.push("No node has a structure.");
-    this.names = [...new Set([...this.program?.nodes ?? [], ...this.report?.nodes.keys() ?? []])];
-    const films = this.filmsOf(of("chain"), of("stages"), known);
-    this.roles = this.rolesOf(films.filter(({ isForeign, census }) => census && !isForeign));
-    for (const film of films) if (film.isForeign) film.roles = new Roles([film.census], null, film.frames.flatMap(({ structure }) => structure ?? []));
+    const names = [...this.program?.nodes ?? [], ...this.report?.nodes.keys() ?? []];
+    this.names = [...new Set(names)];
+    this.roles = this.rolesOf(chain ?? given.explanations.get("stages")?.explanation);
     this.runs = this.report && this.edges.length ? new Runs(this.report, this.edges) : null;
-    this.films = [...films, ...given.replay ? [{ title: `Replay: ${given.replay.file.path}`, frames: replayFrames(given.replay.replay, this) }] : []];
-  },
-  /** The first difference of a program from what was given without a report. */
-  differentRest(program, { explanations, structures }) {
-    const of = kind => explanations.get(kind)?.explanation, chain = of("chain"), censuses = [chain, of("stages")].flatMap(it => it?.census ?? []);
-    return (chain ? differentEdge(program, chain.chainEdges) : "")
-      || [...censuses, ...structures.map(({ listing }) => listing.census)].map(census => differentPredicate(program, census)).find(text => text) || "";
-  },
-  /** Whether predicates have as many arguments as in what is shown already, to which the others are added; else it's told. */
-  agrees(known, census, told) {
-    const difference = differentArity(known, census);
-    if (difference) this.given.problems.push(`${told}, since it doesn't fit: ${difference}.`);
-    else for (const fact of census.facts.values()) if (!known.has(fact.name)) known.set(fact.name, fact);
-    return !difference;
-  },
-  gatherSecond(known) {
-    if (!this.second) return;
-    const { file } = this.given.reports[1], isAlike = [...this.second.nodes.keys()].join() === [...this.report.nodes.keys()].join();
-    if (!isAlike) this.given.problems.push(`${file.path} isn't compared: its nodes aren't those of ${this.given.reports[0].file.path}.`);
-    if (!isAlike || !this.agrees(known, this.second.census, `${file.path} isn't compared`)) this.given.reports.pop();
+    this.films = this.filmsOf(chain, chainEdges);
   },
   programOfEdges(told) {
     const program = Program.ofEdges(told), difference = this.report ? firstDifference(program, this.report) : "";
@@ -95,51 +80,41 @@ export const Page = {
   },
   /** The report with which the first one is compared, if there is one. */
   get second() { return this.given.reports[1]?.listing ?? null; },
-  structures: [], // files of them
-  get listings() { return [...this.report ? [this.report] : [], ...this.second ? [this.second] : [], ...this.structures.map(({ listing }) => listing)]; },
-  /** The roles of predicates in what is listed, and in these films. */
-  rolesOf(films) {
+  get listings() { return [...this.report ? [this.report] : [], ...this.second ? [this.second] : [], ...this.given.structures.map(({ listing }) => listing)]; },
+  rolesOf(chain) {
     const { listings } = this, samples = [], sampled = listings[0], total = sampled?.places.length ?? 0;
     for (let place = 0; place < total; place += Math.max(1, Math.floor(total / SAMPLE))) samples.push(sampled.structure(place));
-    const frames = films.flatMap(film => film.frames).flatMap(({ structure }) => structure ?? []);
-    return new Roles([...listings, ...films].map(({ census }) => census), this.program, total ? samples : frames);
+    const steps = [...chain?.steps ?? [], ...chain?.stages.lines ?? []].flatMap(({ structure }) => structure ?? []);
+    const censuses = [...listings.map(({ census }) => census), ...chain ? [chain.census] : []];
+    return new Roles(censuses, this.program, total ? samples : steps);
   },
-  /** What tvla-explain wrote as films; what doesn't fit is drawn by itself. */
-  filmsOf(chain, stages, known) {
-    const films = [], { program } = this;
+  filmsOf(chain, chainEdges) {
+    const films = [], { given, program } = this;
     if (chain) {
-      const difference = program && differentEdge(program, chain.chainEdges);
-      if (difference) this.given.problems.push(`The chain isn't shown with this program, since it doesn't fit: ${difference}.`);
-      films.push({ title: "Chain of tvla-explain", frames: chainFrames(chain, !difference), census: chain.census });
+      const difference = program && (differentEdge(program, chainEdges) || differentPredicate(program, chain.census));
+      if (difference) given.problems.push(`The chain isn't shown with this program, since it doesn't fit: ${difference}.`);
+      films.push({ title: "Chain of tvla-explain", frames: chainFrames(chain, !difference) });
     }
-    films.push(...(stages?.stages.films ?? []).map(film => ({ ...film, census: stages.census })));
-    for (const census of new Set(films.map(film => film.census))) {
-      const isForeign = !this.agrees(known, census, "What tvla-explain wrote isn't shown with the rest");
-      for (const film of films) if (film.census === census) Object.assign(film, { isForeign });
-    }
+    const step = given.explanations.get("stages")?.explanation;
+    if (step) films.push({ title: "Stages of a step", frames: stageFrames(step.stages) });
+    if (given.replay) films.push({ title: `Replay: ${given.replay.file.path}`, frames: replayFrames(given.replay.replay, this) });
     return films;
   },
   /** Shows anew all that rests on the files. */
   refresh() {
-    const hasAny = Boolean(this.report || this.program || this.films.length || this.structures.length);
+    const hasAny = Boolean(this.report || this.program || this.films.length || this.given.structures.length);
     byId("start").hidden = hasAny;
     byId("compare").hidden = !this.report;
     byId("allToo").hidden = !this.second;
     document.querySelector("main").hidden = !hasAny;
-    this.showParts(this.names.length > 0 || this.structures.length > 0);
     Object.assign(this, { found: new Map(), plans: new Map() });
     this.showPredicates();
     this.text.show(this.program);
     this.showGraph();
     this.showMessages();
     this.film.show(this.films);
-    const first = this.names.find(name => this.count(name)) ?? this.structures[0]?.listing.places[0]?.name ?? this.names[0];
+    const first = this.names.find(name => this.count(name)) ?? this.given.structures[0]?.listing.places[0]?.name ?? this.names[0];
     if (!this.follow()) this.showNode(first ?? "");
-  },
-  /** Leaves away what is empty where there are films alone. */
-  showParts(hasListing) {
-    document.querySelector("main").classList.toggle("bare", !hasListing);
-    for (const element of [byId("side"), byId("listing"), byId("title").parentElement]) element.hidden = !hasListing;
   },
   listingOf(name) { return this.listings.find(({ nodes }) => nodes.has(name)); },
   count(name) { return this.listingOf(name)?.nodes.get(name).count ?? 0; },
@@ -157,10 +132,11 @@ export const Page = {
     const warned = new Map(), losses = this.given.explanations.get("losses")?.explanation.losses ?? [];
     for (const { edge, value, text } of this.report?.messages ?? [])
       warned.set(edge, [...warned.get(edge) ?? [], `message ${Kleene.text(value)}: ${text}`]);
-    for (const { edge, short } of losses) if (edge !== undefined) warned.set(edge, [...warned.get(edge) ?? [], short]);
+    for (const { edge, lost, listed } of losses)
+      if (edge !== undefined) warned.set(edge, [...warned.get(edge) ?? [], `loses ${lost} of ${listed}`]);
     this.graph = new ControlGraph(this.names, this.edges, name => this.count(name), warned, byId("graph"));
     const hint = this.edges.length || !this.report ? "" : "Open the program's text, too, to see its edges.";
-    const files = this.structures.map(({ listing, file }) => html("li", {},
+    const files = this.given.structures.map(({ listing, file }) => html("li", {},
       link(Links.structure(file.name), `${file.name} · ${listing.places.length}`)));
     byId("graph").replaceChildren(...this.graph.drawing ? [button("Save graph as SVG", () => this.saveGraph())] : [], this.graph.element,
       html("ul", { className: "files" }, ...files), html("p", { textContent: hint }));
@@ -228,16 +204,15 @@ export const Page = {
     return [html("h2", { textContent: `Compared: ${first} and ${other}` }), html("ul", {}, list(first, left), list(other, right))];
   },
   lossLines() {
-    const found = this.given.explanations.get("losses")?.explanation;
-    if (!found) return [];
-    const count = found.losses.filter(({ node }) => !node).length;
-    return [count ? html("h2", { textContent: `Losses: ${count}` }) : html("p", { textContent: "Nothing is lost." }),
-      html("ul", {}, ...found.losses.map(loss => this.lossLine(loss)))];
+    const losses = this.given.explanations.get("losses")?.explanation.losses;
+    if (!losses) return [];
+    if (!losses.length) return [html("p", { textContent: "Nothing is lost." })];
+    return [html("h2", { textContent: `Losses: ${losses.length}` }), html("ul", {}, ...losses.map(loss => this.lossLine(loss)))];
   },
   lossLine({ text, node, head, first }) {
-    const item = html("li", node ? { className: "plain" } : {}, text), name = node ?? head?.source;
+    const item = html("li", {}, text), name = node ?? head?.source;
     if (name && this.names.includes(name))
-      item.append(" – ", link(Links.structure(name, first ?? 0), head ? `${name}/${first ?? 0}` : name));
+      item.append(" – ", link(Links.structure(name, first ?? 0), head ? `${name}/${first}` : name));
     return item;
   },
   /** What check said, with a link to the structure of which it speaks. */

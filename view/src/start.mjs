@@ -27,12 +27,8 @@ const openDrop = async event => {
   event.preventDefault();
   document.body.classList.remove("over");
   const { dataTransfer } = event, text = dataTransfer.getData("text");
-  try {
-    if (dataTransfer.files.length) await Page.open(await droppedFiles(dataTransfer));
-    else await openText("dropped text", text);
-  } catch (fault) {
-    Page.say(`What was dropped can't be read (${fault.message}): take “Open files…” or “Open a folder…”.`, true);
-  }
+  if (dataTransfer.files.length) await Page.open(await droppedFiles(dataTransfer));
+  else await openText("dropped text", text);
 };
 
 /** What is kept from one visit to the next; some browsers keep nothing for files from disk. */
@@ -111,8 +107,11 @@ addEventListener("keydown", event => {
   event.preventDefault();
   act();
 });
-addEventListener("beforeprint", () => Page.gallery.hold(200));
-addEventListener("afterprint", () => Page.gallery.release());
+addEventListener("beforeprint", () => { // the first structures of the listing, whether in view or not
+  const { gallery } = Page;
+  for (let i = 0; i < Math.min(gallery.count, 200); i++) if (!gallery.cards.has(i)) gallery.add(i);
+});
+addEventListener("afterprint", () => Page.gallery.render());
 byId("theme").value = kept("colours") ?? "light dark";
 document.documentElement.style.colorScheme = byId("theme").value;
 openInner("given");

@@ -8,6 +8,7 @@ use Rattle.std.proofs.lemmas.Option.{same_Some, slice_get_past, slice_get_within
 use Rattle.std.proofs.lemmas.List.Elements.{All-contains}
 use Rattle.std.specs.Prelude.{All, Contains, IsSome, IsTrue, length, slice_get}
 use Rattle.tv_compiled.specs.Compiled.{written}
+use Rattle.tv_complete_text.specs.Text.{ReadsAsStructures}
 use Rattle.tv_front.specs.Meaning.{Means}
 use Rattle.tv_lemmas.proofs.Options.{same_Ok}
 use Rattle.tv_lex.specs.Gather.{longest_gathered}
@@ -38,15 +39,16 @@ use Rattle.tv_explain.proofs.Alike.{AreRead, SameInputs, moved, not_refused, one
 use Rattle.tv_explain.specs.Answers.{FilesMeanSuch, HasNoCompletion, HasNoText, IsAnswer, IsCompiledText}
 use Rattle.tv_explain.specs.Answers.{IsStopped, IsUnwritten, MeetsItsBudget, NamesNothing, PassesMost}
 use Rattle.tv_explain.specs.Answers.{Reached}
-use Rattle.tv_explain.specs.Answers.{ReadsSuch, compiled_lines}
+use Rattle.tv_explain.specs.Answers.{IsCompletionOf, ReadsSuch, compiled_lines}
 use Rattle.tv_explain.specs.Call.{Commands, IsEnded, IsFound}
 use Rattle.tv_explain.specs.Delivery.{IsDelivered, ending_for}
 use Rattle.tv_explain.specs.Due.{Owes, CallsWithinLimits, CanAnswer, CanBeWritten, CommandOwes}
 use Rattle.tv_explain.specs.Due.{EndsAsOwed}
 use Rattle.tv_explain.specs.Due.{HasMessage, IsAbsent, MayStand, AtLimit, IsWithinLimits, KeepsLimits}
-use Rattle.tv_explain.specs.Due.{AreReadTogether, CanBeCompleted, CannotWrite, KeepsEach, KeepsItsLimits}
+use Rattle.tv_explain.specs.Due.{AreReadTogether, CanBeCompleted, CannotBeCompleted, CannotWrite, KeepsEach}
+use Rattle.tv_explain.specs.Due.{KeepsItsLimits}
 use Rattle.tv_explain.specs.Due.{KeepsReached, LacksEdge, LacksMessage}
-use Rattle.tv_explain.specs.Due.{LacksStructure, ListsSuch, LosesSome, LosesSuch, without_place}
+use Rattle.tv_explain.specs.Due.{LacksStructure, ListsSuch, LosesSome, LosesSuch, without_details}
 use Rattle.tv_explain.specs.Faults.{ending_with}
 use Rattle.tv_explain.specs.Meaning.{FilesMean, IsRefused, drawn_form}
 use Rattle.tv_explain.specs.declared.fault.Answer.{Answer}
@@ -340,10 +342,10 @@ edge_lack asked of inputs edge other h = h
 -- a program that can be written isn't left unwritten
 written_not : (a b : SourceText) (why : Unwritten) → (compiled_lines a ≡ compiled_lines b)
     → SameProgram a.program b.program → CanBeWritten a → HasNoText b why → ⊥
-written_not a b unwritten.TooLong same program can lacking =
+written_not a b unwritten.LongProgram same program can lacking =
     not_both longest_gathered (length (compiled_lines a))
     (subst (λ (t : List ℕ). longest_gathered < length t) (sym same) lacking) can.fits
-written_not a b unwritten.Differs same program can lacking =
+written_not a b unwritten.OtherProgram same program can lacking =
     lacking (subst (λ p. Means (compiled_lines b) p) program
     (subst (λ t. Means t (program_of a.program)) same can.means))
 written_not a b other same program can lacking = lacking
@@ -356,13 +358,23 @@ completed_not p read unwritten.LongCompletion can h =
 completed_not p read unwritten.OtherCompletion can h = h.3 (can h.0 h.1 h.2).1
 completed_not p read other can h = h
 
+-- nor is what was completed
+completion_lacks : (p : Program) (read : StructuresText) (why : Unwritten) (completed : List StructureForm)
+    (text : List ℕ) → IsCompletionOf p read completed text → length text ≤ longest_gathered
+    → ReadsAsStructures p.vocab text completed → CannotBeCompleted why p read → ⊥
+completion_lacks p read unwritten.LongCompletion completed text is fits means lacking =
+    not_both longest_gathered (length text) (lacking completed text is) fits
+completion_lacks p read unwritten.OtherCompletion completed text is fits means lacking =
+    lacking completed text is means
+completion_lacks p read other completed text is fits means lacking = lacking
+
 -- ---- endings that are due
 
-alike : (a b ending due : Ending) → ending ≡ a → due ≡ b → without_place a ≡ without_place b
-    → without_place ending ≡ without_place due
-alike a b ending due e d h = ap without_place e ∙ h ∙ sym (ap without_place d)
+alike : (a b ending due : Ending) → ending ≡ a → due ≡ b → without_details a ≡ without_details b
+    → without_details ending ≡ without_details due
+alike a b ending due e d h = ap without_details e ∙ h ∙ sym (ap without_details d)
 
-answered : (is_lost lost : Bool) → is_lost ≡ lost → without_place (ending_with is_lost) ≡ ending_with lost
+answered : (is_lost lost : Bool) → is_lost ≡ lost → without_details (ending_with is_lost) ≡ ending_with lost
 answered is_lost true e = rw e refl
 answered is_lost false e = rw e refl
 
@@ -449,7 +461,8 @@ module _ (told : Option Held)
         }
     answer_written (Completes program structures) a why h lacking =
         let read = h.0.2 in
-        lacking.1 h.0.0 read.0 h.0.1 read.1 read.2.completed a.text.items read.2.is (read.2.fits, read.2.means)
+        completion_lacks h.0.0 read.0 why read.2.completed a.text.items read.2.is read.2.fits read.2.means
+        (lacking.1 h.0.0 read.0 h.0.1 read.1)
     answer_written other a why h lacking = lacking
 
     -- ---- limits, and what isn't there
@@ -603,7 +616,7 @@ module _ (told : Option Held)
     read_not_refused command r k refused read = unrefused command r k read refused
 
     answer_duly : (command : CommandForm) (a : Answer) (ending due : Ending) → ending ≡ ending_with a.is_lost
-        → IsAnswer told command a → DueView told command due → without_place ending ≡ without_place due
+        → IsAnswer told command a → DueView told command due → without_details ending ≡ without_details due
     answer_duly command a ending due e is (inl (d, can)) =
         alike (ending_with a.is_lost) (As status.Done) ending due e d
         (answered a.is_lost false (done_answer command a is can))
@@ -619,7 +632,7 @@ module _ (told : Option Held)
 
     refused_duly : (command : CommandForm) (r : Role) (k : FileKind) (ending due : Ending)
         → ending ≡ As (status.FileFault r k) → IsRefused told command r k → DueView told command due
-        → without_place ending ≡ without_place due
+        → without_details ending ≡ without_details due
     refused_duly command r k ending due e is (inl (d, can)) =
         absurd (unrefused command r k (done_read told source_read command can) is)
     refused_duly command r k ending due e is (inr (inl (d, some))) =
@@ -642,7 +655,7 @@ module _ (told : Option Held)
 
     absent_duly : (command : CommandForm) (what : Sought) (ending due : Ending) → ending ≡ Absent what
         → FilesMeanSuch told command (λ of inputs. NamesNothing command of inputs what)
-        → DueView told command due → without_place ending ≡ without_place due
+        → DueView told command due → without_details ending ≡ without_details due
     absent_duly command what ending due e h (inl (d, can)) = absurd (absent_done command what h can)
     absent_duly command what ending due e h (inr (inl (d, some))) = absurd (absent_some command what h some)
     absent_duly command what ending due e h (inr (inr (inl (r, k, d, refused)))) =
@@ -653,7 +666,7 @@ module _ (told : Option Held)
         absurd (unwritable_such command why _ lacking h)
 
     unwritten_duly : (command : CommandForm) (why : Unwritten) (ending due : Ending) → ending ≡ Unwritable why
-        → IsUnwritten told command why → DueView told command due → without_place ending ≡ without_place due
+        → IsUnwritten told command why → DueView told command due → without_details ending ≡ without_details due
     unwritten_duly command why ending due e lacking (inl (d, can)) = absurd (unwritten_done command why lacking can)
     unwritten_duly command why ending due e lacking (inr (inl (d, some))) =
         absurd (unwritten_some command why lacking some)
@@ -665,7 +678,7 @@ module _ (told : Option Held)
         alike (Unwritable why) (Unwritable other) ending due e d refl
 
     command_duly : (command : CommandForm) (ending due : Ending) → EndView told command ending
-        → DueView told command due → without_place ending ≡ without_place due
+        → DueView told command due → without_details ending ≡ without_details due
     command_duly command ending due (inl (a, e, is)) view = answer_duly command a ending due e is view
     command_duly command ending due (inr (inl (r, k, e, is))) view = refused_duly command r k ending due e is view
     command_duly command ending due (inr (inr (inl (limit, h)))) view = absurd (stopped_duly command due h view)
@@ -814,7 +827,7 @@ module _ (one : (words : List (List ℕ)) (a b : CommandForm) → Spells words a
       spelled_duly : (words : List (List ℕ)) (ending due : Ending)
           → Commands words (λ command. EndView told command ending)
           → Commands words (λ command. IsSome told × CommandOwes told command due)
-          → without_place ending ≡ without_place due
+          → without_details ending ≡ without_details due
       spelled_duly words ending due h calls =
           let same = one words h.0 calls.0 h.1 calls.1 in
           command_duly told program_files source_files initial_files report_files (source_file told)
@@ -845,13 +858,13 @@ module _ (one : (words : List (List ℕ)) (a b : CommandForm) → Spells words a
           limited command ending (inr (inr (inr (inr (why, e, lacking))))) keeps limit = subst AtLimit e limit
 
     usage_duly : (words : List (List ℕ)) (told : Option Held) (ending due : Ending) → ending ≡ As status.Usage
-        → SpellsNothing words → CallView words told due → without_place ending ≡ without_place due
+        → SpellsNothing words → CallView words told due → without_details ending ≡ without_details due
     usage_duly words told ending due e none (inl nothing) =
         alike (As status.Usage) (As status.Usage) ending due e nothing.0 refl
     usage_duly words told ending due e none (inr calls) = absurd (none calls.0 calls.1)
 
     called_duly : (words : List (List ℕ)) (told : Option Held) (ending due : Ending) → CallEnds words told ending
-        → CallView words told due → (without_place ending ≡ without_place due) ⊎ MayStand ending
+        → CallView words told due → (without_details ending ≡ without_details due) ⊎ MayStand ending
     called_duly words told ending due (inl (e, none)) view = inl (usage_duly words told ending due e none view)
     called_duly words told ending due (inr (inl excuse)) view = inr excuse
     called_duly words told ending due (inr (inr h)) (inl (d, none)) = absurd (none h.0 h.1)

@@ -153,17 +153,19 @@ IsAbsent told (TakesStep of edge) what = (inputs : Inputs) × FilesMean told of 
     × LacksEdge (drawn_form inputs) edge what
 IsAbsent told other what = ⊥
 
--- no completed file means the completed structures, or it is too long
-abbrev pub CannotBeCompleted : Program → StructuresText → Type 0
-CannotBeCompleted p read = (completed : List StructureForm) (text : List ℕ)
-    → IsCompletionOf p read completed text
-    → ¬ ((length text ≤ longest_gathered) × ReadsAsStructures p.vocab text completed)
+-- each completed file is too long, or none means the completed structures, as the reason says
+abbrev pub CannotBeCompleted : Unwritten → Program → StructuresText → Type 0
+CannotBeCompleted unwritten.LongCompletion p read = (completed : List StructureForm) (text : List ℕ)
+    → IsCompletionOf p read completed text → longest_gathered < length text
+CannotBeCompleted unwritten.OtherCompletion p read = (completed : List StructureForm) (text : List ℕ)
+    → IsCompletionOf p read completed text → ¬ ReadsAsStructures p.vocab text completed
+CannotBeCompleted other p read = ⊥
 
 -- what comes of the source program, or of the structures, can't be written
 abbrev pub CannotWrite : Option Held → CommandForm → Unwritten → Type 0
 CannotWrite told (Completes program structures) why = AreReadTogether told program structures
     × ((p : Program) (read : StructuresText) → IsProgramFile told program (Ok p)
-    → IsStructuresText told structures p read → CannotBeCompleted p read)
+    → IsStructuresText told structures p read → CannotBeCompleted why p read)
 CannotWrite told other why = IsUnwritten told other why
 
 -- ---- which ending is due
@@ -201,16 +203,16 @@ MayStand (As status.WriteFault) = Unit {0}
 MayStand (As status.Memory) = Unit {0}
 MayStand other = ⊥
 
--- the ending, wherever in a file a fault stands, and whatever keeps a text from being written
-abbrev pub without_place : Ending → Ending
-without_place (As (status.FileFault role kind)) = As (status.FileFault role (placeless kind))
-without_place (Unwritable why) = Unwritable unwritten.TooLong
-without_place other = other
+-- the ending, wherever in a file a fault stands, and whichever of its reasons keeps a text from being written
+abbrev pub without_details : Ending → Ending
+without_details (As (status.FileFault role kind)) = As (status.FileFault role (placeless kind))
+without_details (Unwritable why) = Unwritable unwritten.LongProgram
+without_details other = other
 
 -- the call ends as it is called for, or there is such an excuse
 pub record EndsAsOwed (words : List (List ℕ)) (told : Option Held) (ending : Ending)
     (excuse : Type 0) : Type 0 where
   -- whatever ending is called for, this is the one, places aside
-  pub due : (due : Ending) → Owes words told due → (without_place ending ≡ without_place due) ⊎ excuse
+  pub due : (due : Ending) → Owes words told due → (without_details ending ≡ without_details due) ⊎ excuse
   -- and where an analysis keeps its limits, none is told
   pub within : CallsWithinLimits words told → ¬ AtLimit ending

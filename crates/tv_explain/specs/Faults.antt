@@ -39,8 +39,8 @@ fault_of_work max work.Memory = Memory
 
 -- the fault of a compiled program that isn't written
 abbrev pub fault_of_writing : CompiledError → Fault
-fault_of_writing compiled.TooLong = NotWritten unwritten.TooLong
-fault_of_writing compiled.Differs = NotWritten unwritten.Differs
+fault_of_writing compiled.TooLong = NotWritten unwritten.LongProgram
+fault_of_writing compiled.Differs = NotWritten unwritten.OtherProgram
 fault_of_writing compiled.Memory = Memory
 
 -- the fault of a completed file that isn't written
@@ -107,9 +107,9 @@ absent_text sought.Structure = teller_line Explainer (codes "no such structure")
 
 -- why a compiled program or a completed file isn't written
 abbrev pub unwritten_text : Unwritten → List ℕ
-unwritten_text unwritten.TooLong =
+unwritten_text unwritten.LongProgram =
     teller_line Explainer (codes "the compiled program is too long to be written")
-unwritten_text unwritten.Differs =
+unwritten_text unwritten.OtherProgram =
     teller_line Explainer (codes "the compiled program can't be written as a text")
 unwritten_text unwritten.LongCompletion =
     teller_line Explainer (codes "the completed file is too long to be written")

@@ -53,14 +53,14 @@ fn write_unwritten<E: Sink>(err: &mut E, why: Unwritten) -> Result<(), Failed>
     ensures count { E.faults err.old ≤ E.faults err.new }
 {
     match why {
-        Unwritten::TooLong => {
+        Unwritten::LongProgram => {
             write_line(
                 err,
                 Teller::Explainer,
                 b"the compiled program is too long to be written",
             )
         }
-        Unwritten::Differs => {
+        Unwritten::OtherProgram => {
             write_line(
                 err,
                 Teller::Explainer,

@@ -49,9 +49,9 @@ pub fn plain(found: Result<Vec<u8>, Fault>) -> Result<Answer, Fault>
 #[derive(Clone, Copy, Debug, PartialEq, Eq)]
 pub enum Unwritten {
     /// The program's text has more bytes than a file may have that is read as a program.
-    TooLong,
+    LongProgram,
     /// The program's text doesn't mean it.
-    Differs,
+    OtherProgram,
     /// The completed file has more bytes than a file may have that is read as structures.
     LongCompletion,
     /// The completed file doesn't mean the completed structures.
@@ -199,8 +199,8 @@ impl From<CompiledError> for Fault {
 
     fn from(error: CompiledError) -> Fault {
         match error {
-            CompiledError::TooLong => Fault::NotWritten(Unwritten::TooLong),
-            CompiledError::Differs => Fault::NotWritten(Unwritten::Differs),
+            CompiledError::TooLong => Fault::NotWritten(Unwritten::LongProgram),
+            CompiledError::Differs => Fault::NotWritten(Unwritten::OtherProgram),
             CompiledError::Memory => Fault::Memory,
         }
     }

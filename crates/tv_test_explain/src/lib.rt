@@ -16,4 +16,6 @@ mod rows;
 #[cfg(test)]
 mod texts;
 #[cfg(test)]
+mod views;
+#[cfg(test)]
 mod words;

@@ -3,7 +3,8 @@ use Rattle.tv_outside.specs.Count.{Rose}
 use Rattle.tv_explain.specs.Answers.{IsText}
 use Rattle.tv_explain.specs.Call.{IsCommandCause}
 use Rattle.tv_explain.proofs.Causes.{plain_cause, plain_text}
-use Rattle.tv_explain_words.specs.Words.{Completes, Compiles, ListsEdges, TakesStep, TellsCounts, TellsMessage}
+use Rattle.tv_explain_words.specs.Words.{Completes, Compiles, ListsEdges, TakesStep, TellsCounts}
+use Rattle.tv_explain_words.specs.Words.{TellsMessage}
 use Rattle.tv_explain_words.specs.Words.{TellsPlan, TellsStructure, analyzed_of}
 use Rattle.tv_explain.proofs.work.execute.Goals as goal
 
