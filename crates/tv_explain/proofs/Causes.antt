@@ -20,26 +20,16 @@ use Rattle.tv_texts.specs.Files.{IsSourceFile, UnlessNotRead}
 use Rattle.tv_texts.specs.Meaning.{MeansProgram}
 use Rattle.tv_texts.specs.declared.fault.TextFault.{TextFault}
 use Rattle.tv_texts.specs.declared.fault.TextFault.TheVariants as text
-use Rattle.std.proofs.Common.{Some}
-use Rattle.std.proofs.lemmas.Option.{get_or_from_slice_get, slice_get_within}
-use Rattle.std.specs.Prelude.{slice_get}
-use Rattle.tv_complete_text.specs.Text.{IsCauseOfNone}
-use Rattle.tv_complete_text.specs.declared.error.CompletionError.{CompletionError}
-use Rattle.tv_complete_text.specs.declared.error.CompletionError.TheVariants as completion
-use Rattle.tv_model.specs.Program.{ProgramForm}
-use Rattle.tv_step_laws.specs.Budgets.{IsStepCause}
-use Rattle.tv_struct.specs.declared.analysis.StageError.{StageError}
-use Rattle.tv_struct.specs.declared.analysis.StageError.TheVariants as stage
-use Rattle.tv_structure_form.specs.StructureForm.{StructureForm}
-use Rattle.tv_texts.specs.Structures.{IsStructuresText}
-use Rattle.tv_texts.specs.declared.structures.StructuresText.{StructuresText}
-use Rattle.tv_explain.specs.Answers.{FilesMeanSuch, IsAnswer, IsCompiledText, IsStopped}
+use Rattle.tv_work.specs.Analyzed.{IsWorkCause}
+use Rattle.tv_work.specs.declared.error.WorkError.{WorkError}
+use Rattle.tv_work.specs.declared.error.WorkError.TheVariants as work
+use Rattle.tv_explain.specs.Answers.{FilesMeanSuch, IsAnswer, IsCompiledText, IsStopped, Reached}
 use Rattle.tv_explain.specs.Answers.{compiled_lines}
 use Rattle.tv_explain.specs.Call.{IsAnswerTo, IsCause, IsCommandCause, IsFound, UnlessReadFault}
-use Rattle.tv_explain.specs.Faults.{fault_of_completion, fault_of_step, fault_of_text, fault_of_writing}
+use Rattle.tv_explain.specs.Faults.{fault_of_text, fault_of_work, fault_of_writing}
 use Rattle.tv_explain.specs.Meaning.{FilesMean, IsDrawnFile, IsMissing, IsRefused, LacksInputs, drawn_form}
 use Rattle.tv_explain.specs.Meaning.{program_name}
-use Rattle.tv_explain.specs.Work.{IsInputsCause, IsStepsStop, plain}
+use Rattle.tv_explain.specs.Work.{IsInputsCause, plain}
 use Rattle.tv_explain.specs.declared.fault.Answer.{Answer}
 use Rattle.tv_explain.specs.declared.fault.Fault.{Fault}
 use Rattle.tv_explain.specs.declared.fault.Fault.TheVariants.{Usage, FileFault, Structures, TooManySplits}
@@ -48,7 +38,7 @@ use Rattle.tv_explain.specs.declared.fault.Fault.TheVariants.{ReadFault, Memory}
 use Rattle.tv_explain.specs.declared.inputs.Drawn.{Drawn}
 use Rattle.tv_explain.specs.declared.inputs.Inputs.{Inputs}
 use Rattle.tv_explain_words.specs.Words.{AnalyzedForm, CommandForm, Shows, TellsLosses, TellsMessage}
-use Rattle.tv_explain_words.specs.Words.{Compiles, TellsStructure, TakesStep, TellsCounts, Completes, Spells}
+use Rattle.tv_explain_words.specs.Words.{Compiles, TellsStructure, Spells}
 
 -- ---- counts and steadiness
 
@@ -120,34 +110,8 @@ module _ (told : Option Held) where
   report_fault program report p rose steady late_rose late_steady text.NotRead means earlier stays h =
       (earlier h.0, λ s. inr (p, means, h.1 (stays s)))
   report_fault program report p rose steady late_rose late_steady text.Memory means earlier stays h = tt
+      -- PROGRAM of an analysis isn't had
 
-  -- STRUCTURES isn't had
-  pub structures_fault : (program structures : List ℕ) (p : Program)
-      (rose steady late_rose late_steady : Type 0) (e : TextFault) → IsProgramFile told program (Ok p)
-      → (late_rose → rose) → (steady → late_steady)
-      → IsFileCause role.Initial (λ k. IsInitialFile told structures p (Err k)) (¬ HoldsName told structures)
-      late_rose late_steady e
-      → IsCommandCause told (Completes program structures) rose steady (fault_of_text e)
-  structures_fault program structures p rose steady late_rose late_steady (text.Refused its k) means earlier
-      stays h =
-      subst (λ r. IsRefused told (Completes program structures) r k) (sym h.0) (p, means, h.1)
-  structures_fault program structures p rose steady late_rose late_steady text.NotRead means earlier stays h =
-      (earlier h.0, λ s. inr (p, means, h.1 (stays s)))
-  structures_fault program structures p rose steady late_rose late_steady text.Memory means earlier stays h = tt
-
-  -- the completed file isn't written
-  pub completion_fault : (program structures : List ℕ) (p : Program) (read : StructuresText)
-      (rose steady : Type 0) (e : CompletionError) → IsProgramFile told program (Ok p)
-      → IsStructuresText told structures p read
-      → IsCauseOfNone p read.bytes.items read.tokens.list.items read.structures e
-      → IsCommandCause told (Completes program structures) rose steady (fault_of_completion e)
-  completion_fault program structures p read rose steady completion.TooLong means its h =
-      (p, means, (read, its, h))
-  completion_fault program structures p read rose steady completion.Differs means its h =
-      (p, means, (read, its, h))
-  completion_fault program structures p read rose steady completion.Memory means its h = tt
-
-  -- PROGRAM of an analysis isn't had
   pub taken_fault : (of : AnalyzedForm) (rose steady : Type 0) (e : TextFault)
       → IsFileCause role.Program (λ k. IsProgramFile told of.program (Err k)) (LacksFile told of.program) rose
       steady e → IsInputsCause told of rose steady (fault_of_text e)
@@ -209,16 +173,6 @@ module _ (told : Option Held) where
   losses_unread of rose steady f h =
       inputs_cause (TellsLosses of) of rose steady f (λ k r. r) (λ k r. r) (λ l. l) h
 
-  pub step_unread : (of : AnalyzedForm) (edge : ℕ) (rose steady : Type 0) (f : Fault)
-      → IsInputsCause told of rose steady f → IsCommandCause told (TakesStep of edge) rose steady f
-  step_unread of edge rose steady f h =
-      inputs_cause (TakesStep of edge) of rose steady f (λ k r. r) (λ k r. r) (λ l. l) h
-
-  pub counts_unread : (of : AnalyzedForm) (rose steady : Type 0) (f : Fault)
-      → IsInputsCause told of rose steady f → IsCommandCause told (TellsCounts of) rose steady f
-  counts_unread of rose steady f h =
-      inputs_cause (TellsCounts of) of rose steady f (λ k r. r) (λ k r. r) (λ l. l) h
-
   -- what stops the work behind the files stops the command
   stopped_cause : (command : CommandForm) (of : AnalyzedForm) (inputs : Inputs) (rose steady : Type 0)
       (f : Fault)
@@ -256,18 +210,6 @@ module _ (told : Option Held) where
       → IsCommandCause told (TellsLosses of) rose steady f
   losses_stopped of inputs rose steady f means h =
       stopped_cause (TellsLosses of) of inputs rose steady f (λ P is. (inputs, means, is)) h
-
-  pub step_stopped : (of : AnalyzedForm) (edge : ℕ) (inputs : Inputs) (rose steady : Type 0) (f : Fault)
-      → FilesMean told of inputs → IsStopped (TakesStep of edge) of inputs f
-      → IsCommandCause told (TakesStep of edge) rose steady f
-  step_stopped of edge inputs rose steady f means h =
-      stopped_cause (TakesStep of edge) of inputs rose steady f (λ P is. (inputs, means, is)) h
-
-  pub counts_stopped : (of : AnalyzedForm) (inputs : Inputs) (rose steady : Type 0) (f : Fault)
-      → FilesMean told of inputs → IsStopped (TellsCounts of) of inputs f
-      → IsCommandCause told (TellsCounts of) rose steady f
-  counts_stopped of inputs rose steady f means h =
-      stopped_cause (TellsCounts of) of inputs rose steady f (λ P is. (inputs, means, is)) h
 
   -- ---- words
 
@@ -310,28 +252,14 @@ written_text law source text is means size = record {
       (subst (λ t. MeansProgram t (Ok source.program)) is means));
 }
 
--- the step of one of the structures has no answer
-pub one_stopped : (p : ProgramForm) (edge : ℕ) (ss : List StructureForm) (number : ℕ) (s : StructureForm)
-    (e : StageError) → slice_get ss number ≡ Some s → IsStepCause p edge s e
-    → IsStepsStop p edge ss (fault_of_step e)
-one_stopped p edge ss number s stage.Splits at h =
-    (number, s, slice_get_within ss number s at, get_or_from_slice_get ss number s s at, h)
-one_stopped p edge ss number s stage.Individuals at h =
-    (number, s, slice_get_within ss number s at, get_or_from_slice_get ss number s s at, h)
-one_stopped p edge ss number s stage.Memory at h = tt
-
--- so nothing is told of them
-pub steps_stopped : (asked of : AnalyzedForm) (edge : ℕ) (inputs : Inputs) (f : Fault)
-    → IsStepsStop (drawn_form inputs) edge inputs.initial f → IsStopped (TakesStep asked edge) of inputs f
-steps_stopped asked of edge inputs TooManySplits h = h
-steps_stopped asked of edge inputs TooManyIndividuals h = h
-steps_stopped asked of edge inputs Memory h = tt
-steps_stopped asked of edge inputs Usage h = absurd h
-steps_stopped asked of edge inputs (FileFault r k) h = absurd h
-steps_stopped asked of edge inputs (Structures max) h = absurd h
-steps_stopped asked of edge inputs (NotThere what) h = absurd h
-steps_stopped asked of edge inputs (NotWritten why) h = absurd h
-steps_stopped asked of edge inputs ReadFault h = absurd h
+-- why a search finds nothing
+pub work_stopped : (command : CommandForm) (of : AnalyzedForm) (inputs : Inputs) (e : WorkError)
+    → IsWorkCause (drawn_form inputs) of.max (Reached of inputs) e
+    → IsStopped command of inputs (fault_of_work of.max e)
+work_stopped command of inputs work.Structures h = (refl, h)
+work_stopped command of inputs work.Splits h = h
+work_stopped command of inputs work.Individuals h = h
+work_stopped command of inputs work.Memory h = tt
 
 -- ---- texts alone
 

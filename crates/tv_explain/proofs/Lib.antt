@@ -8,5 +8,4 @@ mod EdgesKept
 mod EdgesWired
 mod Endings
 mod Silence
-mod Steps
 mod Trees

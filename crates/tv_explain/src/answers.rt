@@ -1,33 +1,25 @@
-//! What is told of a message, of a structure, of losses, of steps and of counts.
+//! What is told of a message, of a structure and of losses.
 
 ghost use Rattle.std.specs.Prelude.{◌≡◌, ◌<◌, ◌^◌, ℕ, Contains, IfErr, IfNone, IfOk, IfSome, Some, codes};
 ghost use Rattle.std.specs.Prelude.{◌++◌, ◌↔◌, IsTrue, length, slice_get};
-ghost use Rattle.std.specs.Prelude.{All, OnOk};
-ghost use Rattle.tv_counts.specs.Counts.{IsCountsText};
-ghost use Rattle.tv_model.specs.Program.{message_of, program_of};
+ghost use Rattle.tv_model.specs.Program.{message_of};
 ghost use Rattle.tv_trail.specs.Over.{IsTrailOver};
-ghost use Rattle.tv_explain.specs.Answers.{IsMessageText, IsStepText, IsStopped, IsStructureText};
-ghost use Rattle.tv_explain.specs.Answers.{NamesNothing};
+ghost use Rattle.tv_explain.specs.Answers.{IsMessageText, IsStopped, IsStructureText, NamesNothing};
 ghost use Rattle.tv_explain.specs.Answers.{TellsOfLosses, trail_lines};
 ghost use Rattle.tv_explain.specs.Meaning.{drawn_form, heads_in};
-ghost use Rattle.tv_explain.specs.Work.{AreReady, GoesOnWithSteps, IsStepsStop};
+ghost use Rattle.tv_explain.specs.Work.{AreReady};
 ghost use Rattle.tv_explain_text.specs.Texts.{messages_at};
-ghost use Rattle.tv_explain_text.specs.Trails.{at_hand_line, raised_line};
+ghost use Rattle.tv_explain_text.specs.Trails.{raised_line};
 ghost use Rattle.tv_explain_words.specs.Words.{AnalyzedForm, TellsLosses, TellsMessage, TellsStructure};
-ghost use Rattle.tv_explain_words.specs.Words.{TakesStep, TellsCounts, analyzed_of};
-ghost use Rattle.tv_structure_form.specs.StructureForm.{IsOver};
+ghost use Rattle.tv_explain_words.specs.Words.{analyzed_of};
 
 use crate::fault::{Answer, Fault, Sought, fault_of_work};
 use crate::inputs::Inputs;
 use std::alloc::{AllocError, Global};
-use tv_counts::counts_text;
 use tv_explain_text::{Told, messages_at, raised_text, trail_text};
 use tv_explain_words::Analyzed;
 use tv_losses_text::explain_losses;
 use tv_model::{Bytes, Message};
-use tv_stages::Stager;
-use tv_stages_text::{StageWriter, slow_steps_are_over};
-use tv_struct::Structure;
 use tv_trail::{Raised, trail_to_listed, trail_to_message};
 
 /// The text that no reached structure raises a message.
@@ -66,17 +58,14 @@ fn raised_answer(
 ) -> Result<Vec<u8>, AllocError>
     requires ready { AreReady inputs.now }
     requires over { IsTrailOver inputs.now.drawn.program.vocab raised.now.trail }
-    requires at_hand { IsOver inputs.now.drawn.program.vocab raised.now.at_hand }
     ensures { IfOk result (λ text. text.items ≡ trail_lines inputs.now raised.now.trail
-        ++ (raised_line (heads_in inputs.now) edge number raised.now.value message.now.text
-        ++ at_hand_line inputs.now.drawn.program.vocab raised.now.at_hand)) }
+        ++ raised_line (heads_in inputs.now) edge number raised.now.value message.now.text) }
 {
     let told = Told {
         edge,
         number,
         value: raised.value,
         text: message.text.as_slice(),
-        at_hand: &raised.at_hand,
     };
     raised_text(
         alloc,
@@ -172,75 +161,6 @@ pub fn structure_text(
         Err(error) => Err(fault_of_work(error, of.max)),
         Ok(None) => Err(Fault::NotThere(Sought::Structure)),
         Ok(Some(trail)) => Ok(trail_text(alloc, program, &inputs.drawn.heads, &trail)?),
-    }
-}
-
-/// Appends the step of each of the structures along the edge, stage by stage.
-fn append_steps(
-    out: &mut Vec<u8>,
-    stager: &mut Stager<'_>,
-    writer: &StageWriter<'_>,
-    edge: u32,
-    structures: &[Structure],
-) -> Result<(), Fault>
-    requires program { writer.now ≡ stager.old.program }
-    requires edge { edge < length stager.old.program.edges }
-    requires over { All (IsOver stager.old.program.vocab) structures.now }
-    ensures steps { OnOk result
-        (GoesOnWithSteps stager.old edge structures.now out.old.items out.new.items) }
-    ensures cause { IfErr result (IsStepsStop (program_of stager.old.program) edge structures.now) }
-{
-    slow_steps_are_over();
-    for number in 0..structures.len() {
-        let s = &structures[number];
-        let step = stager.step(edge, s)?;
-        writer.append_step(out, number, s, &step)?;
-    }
-    Ok(())
-}
-
-/// The step of each of the structures along the edge, stage by stage.
-pub fn step_answer(
-    alloc: Global,
-    inputs: &Inputs,
-    of: &Analyzed,
-    edge: u32,
-) -> Result<Vec<u8>, Fault>
-    requires { AreReady inputs.now }
-    ensures found { IfOk result
-        (λ text. IsStepText (analyzed_of of.now) inputs.now edge text.items) }
-    ensures cause { IfErr result (IsStopped (TakesStep (analyzed_of of.now) edge)
-        (analyzed_of of.now) inputs.now) }
-{
-    let program = &inputs.drawn.program;
-    if program.edges.len() <= edge as usize {
-        return Err(Fault::NotThere(Sought::Edge));
-    }
-    let mut stager = Stager::new(alloc, program, of.mode)?;
-    let writer = StageWriter::new(alloc, program)?;
-    let mut out = Vec::new(alloc);
-    append_steps(
-        &mut out,
-        &mut stager,
-        &writer,
-        edge,
-        inputs.initial.as_slice(),
-    )?;
-    Ok(out)
-}
-
-/// How many structures the analysis lists at each node.
-pub fn counts_answer(alloc: Global, inputs: &Inputs, of: &Analyzed) -> Result<Vec<u8>, Fault>
-    requires { AreReady inputs.now }
-    ensures found { IfOk result (λ text. IsCountsText (drawn_form inputs.now) of.now.mode inputs.now.initial
-        of.now.max text.items) }
-    ensures cause { IfErr result
-        (IsStopped (TellsCounts (analyzed_of of.now)) (analyzed_of of.now) inputs.now) }
-{
-    let program = &inputs.drawn.program;
-    match counts_text(alloc, program, &inputs.initial, of.mode, of.max) {
-        Err(error) => Err(fault_of_work(error, of.max)),
-        Ok(text) => Ok(text),
     }
 }
 

@@ -12,7 +12,6 @@ ghost use Rattle.tv_words.specs.Words.{words_of};
 use crate::answers::{losses_answer, message_text, structure_text};
 use crate::fault::{Answer, Fault, plain};
 use crate::inputs::{load_drawn, load_inputs};
-use crate::views::{complete, counts, plan, step};
 use std::alloc::Global;
 use tv_compiled::compiled_text;
 use tv_compiled_laws::compiled_texts_are_programs;
@@ -182,17 +181,6 @@ fn execute<F: Files>(alloc: Global, files: &mut F, command: &Command) -> Result<
         Command::Structure { of, node, index } => plain(structure(alloc, files, of, node, *index)),
         Command::Losses { of } => losses(alloc, files, of),
         Command::Compiled { source } => plain(compiled(alloc, files, source)),
-        Command::Step { of, edge } => plain(step(alloc, files, of, *edge)),
-        Command::Plan {
-            program,
-            mode,
-            delta,
-        } => plain(plan(alloc, files, program, *mode, *delta)),
-        Command::Counts { of } => plain(counts(alloc, files, of)),
-        Command::Complete {
-            program,
-            structures,
-        } => plain(complete(alloc, files, program, structures)),
     }
 }
 

@@ -22,13 +22,12 @@ const ASKED_OF_BOTH: Row<'static, 'static, 'static, 'static> = Row {
 };
 
 /// `b` is false at `L0` and true at `L1`, but for the second structure.
-static CHAINS: [Row<'static, 'static, 'static, 'static>; 17] = [
+static CHAINS: [Row<'static, 'static, 'static, 'static>; 15] = [
     Row {
         words: &["message", "p", "i", "3", "0"],
         out: "initial 0
 edge 0  p:11  L0 Go ( ) L1  b
 edge 3  p:14  L1 Say ( ) L2  message 0 is 1: \"still on\"
-at hand  b
 ",
         ..ASKED
     },
@@ -37,7 +36,6 @@ at hand  b
         out: "initial 0
 edge 0  p:11  L0 Go ( ) L1  b
 edge 2  p:13  L1 Go ( ) L0  message 1 is 1: \"on\"
-at hand  b
 ",
         ..ASKED
     },
@@ -59,7 +57,6 @@ at hand  b
         out: "initial 1
 edge 0  p:11  L0 Go ( ) L1  b
 edge 3  p:14  L1 Say ( ) L2  message 0 is 1: \"still on\"
-at hand  b
 ",
         ..ASKED_OF_BOTH
     },
@@ -68,7 +65,6 @@ at hand  b
         words: &["message", "p", "i", "0", "1"],
         out: "initial 0  b
 edge 0  p:11  L0 Go ( ) L1  message 1 is 1: \"on\"
-at hand  b
 ",
         ..ASKED_OF_BOTH
     },
@@ -84,42 +80,6 @@ at hand  b
         ],
         out: "initial 0  ((#0))-n?->((#0))  (#1&x?)-n->((#0))
 edge 0  p:11  L0 Go ( ) L1  message 0 is 1/2: \"x is somewhere\"
-at hand  ((#0))-n?->((#0))  (#1&x?)-n->((#0))
-",
-        ..PLAIN
-    },
-    // the greatest value, though fewer steps lead to another
-    Row {
-        words: &["message", "p", "i", "0", "0"],
-        files: &[
-            (
-                "p",
-                "%p b() %% %action Say() { %message b() -> \"on\" } %action Set() { { b() = 1 } } %%
-L Say() M
-L Set() L",
-            ),
-            ("i", "%n = {} %p = { b = 1/2 }"),
-        ],
-        out: "initial 0  b?
-edge 1  p:3  L Set ( ) L  b
-edge 0  p:2  L Say ( ) M  message 0 is 1: \"on\"
-at hand  b
-",
-        ..PLAIN
-    },
-    // of what focus leaves that at which the condition has the value
-    Row {
-        words: &["message", "p", "i", "0", "0"],
-        files: &[
-            (
-                "p",
-                "%p x(v) %% %action Look() { %f { x(v) } %message E(v) x(v) -> \"seen\" } %% L Look() L",
-            ),
-            ("i", "%n = {u} %p = { x = {u:1/2} }"),
-        ],
-        out: "initial 0  (#0&x?)
-edge 0  p:1  L Look ( ) L  message 0 is 1: \"seen\"
-at hand  (x)
 ",
         ..PLAIN
     },
@@ -138,7 +98,6 @@ at hand  (x)
         out: "initial 0
 edge 0  p:11  L0 Go ( ) L1  b
 edge 3  p:14  L1 Say ( ) L2  message 0 is 1: \"still on\"
-at hand  b
 ",
         ..ASKED
     },
@@ -154,7 +113,6 @@ at hand  b
         ],
         out: "initial 0  b
 edge 0  p:11  L0 Go ( ) L1  message 1 is 1: \"on\"
-at hand  b
 ",
         files: &[("p", PROGRAM), ("i", "%n = {} %p = { b = 1 }")],
         ..PLAIN
@@ -199,7 +157,6 @@ edge 0  p:11  L0 Go ( ) L1  b
         ],
         out: "initial 1
 edge 0  p:1  L Say ( ) L  message 0 is 1: \"off\"
-at hand
 ",
         ..PLAIN
     },

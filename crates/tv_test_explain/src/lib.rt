@@ -16,6 +16,4 @@ mod rows;
 #[cfg(test)]
 mod texts;
 #[cfg(test)]
-mod views;
-#[cfg(test)]
 mod words;

@@ -33,21 +33,7 @@ compile s
 compiled
 compiled s s
 compiled s --delta
-compiled s --max-structures=5
-step p i
-step p i 0 0
-step p i L0
-step p i 0 --max-structures 5
-step p i 0 --delta --recompute
-plan
-plan p i
-plan p --max-structures 5
-counts p
-counts p i 0
-counts p i --max-structures=0
-complete p
-complete p i i
-complete p i --delta";
+compiled s --max-structures=5";
 
 /// Words that name what isn't there, and what is told of them.
 const ABSENT: &str = "message p i 4 0;no such edge
@@ -55,8 +41,7 @@ message p i 4294967295 0;no such edge
 message p i 1 0;no such message
 message p i 3 1;no such message
 structure p i L3 0;no such node
-structure p i L1 1;no such structure
-step p i 4;no such edge";
+structure p i L1 1;no such structure";
 
 /// Each file that the words name is there.
 const REFUSED: Row<'static, 'static, 'static, 'static> = Row {

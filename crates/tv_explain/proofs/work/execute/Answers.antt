@@ -3,9 +3,7 @@ use Rattle.tv_outside.specs.Count.{Rose}
 use Rattle.tv_explain.specs.Answers.{IsText}
 use Rattle.tv_explain.specs.Call.{IsCommandCause}
 use Rattle.tv_explain.proofs.Causes.{plain_cause, plain_text}
-use Rattle.tv_explain_words.specs.Words.{Completes, Compiles, ListsEdges, TakesStep, TellsCounts}
-use Rattle.tv_explain_words.specs.Words.{TellsMessage}
-use Rattle.tv_explain_words.specs.Words.{TellsPlan, TellsStructure, analyzed_of}
+use Rattle.tv_explain_words.specs.Words.{Compiles, ListsEdges, TellsMessage, TellsStructure, analyzed_of}
 use Rattle.tv_explain.proofs.work.execute.Goals as goal
 
 pub returns-in-Edges-clause-found : goal.returns-in-Edges-clause-found
@@ -51,54 +49,3 @@ returns-in-Compiled-clause-found g c =
     rw (c.in-Compiled.is, c.plain-in-Compiled.ensures) (plain_text _ c.compiled.result (subst
     (λ name. IfOk c.compiled.result (λ text. IsText told (Compiles name) text.items))
     c.deref-in-Compiled.ensures c.compiled.ensures.found))
-
-pub returns-in-Step-clause-found : goal.returns-in-Step-clause-found
-returns-in-Step-clause-found g c =
-    let told = g.F.Files.holds c.args.files.now in
-    let of = analyzed_of c.in-Step.of in
-    rw (c.in-Step.is, c.plain-in-Step.ensures)
-    (plain_text (IsText told (TakesStep of c.in-Step.edge)) c.step.result c.step.ensures.found)
-
-pub returns-in-Step-clause-cause : goal.returns-in-Step-clause-cause
-returns-in-Step-clause-cause g c =
-    rw (c.in-Step.is, c.plain-in-Step.ensures) (plain_cause _ c.step.result c.step.ensures.cause)
-
-pub returns-in-Plan-clause-found : goal.returns-in-Plan-clause-found
-returns-in-Plan-clause-found g c =
-    let told = g.F.Files.holds c.args.files.now in
-    rw (c.in-Plan.is, c.plain-in-Plan.ensures) (plain_text _ c.plan.result (subst
-    (λ name. IfOk c.plan.result (λ text. IsText told (TellsPlan name c.in-Plan.mode c.in-Plan.delta) text.items))
-    c.deref-in-Plan.ensures c.plan.ensures.found))
-
-pub returns-in-Plan-clause-cause : goal.returns-in-Plan-clause-cause
-returns-in-Plan-clause-cause g c =
-    let told = g.F.Files.holds c.args.files.now in
-    let rose = Rose (g.F.Files.faults c.args.files.now) (g.F.Files.faults c.plan.new.files) in
-    let steady = g.F.Files.steady c.args.files.now in
-    rw (c.in-Plan.is, c.plain-in-Plan.ensures) (plain_cause _ c.plan.result (subst
-    (λ name. IfErr c.plan.result (IsCommandCause told (TellsPlan name c.in-Plan.mode c.in-Plan.delta) rose steady))
-    c.deref-in-Plan.ensures c.plan.ensures.cause))
-
-pub returns-in-Counts-clause-found : goal.returns-in-Counts-clause-found
-returns-in-Counts-clause-found g c =
-    let told = g.F.Files.holds c.args.files.now in
-    let of = analyzed_of c.in-Counts.of in
-    rw (c.in-Counts.is, c.plain-in-Counts.ensures)
-    (plain_text (IsText told (TellsCounts of)) c.counts.result c.counts.ensures.found)
-
-pub returns-in-Counts-clause-cause : goal.returns-in-Counts-clause-cause
-returns-in-Counts-clause-cause g c =
-    rw (c.in-Counts.is, c.plain-in-Counts.ensures) (plain_cause _ c.counts.result c.counts.ensures.cause)
-
-pub returns-in-Losses-clause-cause : goal.returns-in-Losses-clause-cause
-returns-in-Losses-clause-cause g c = rw c.in-Losses.is c.losses.ensures.cause
-
-pub returns-in-Complete-clause-found : goal.returns-in-Complete-clause-found
-returns-in-Complete-clause-found g c =
-    let told = g.F.Files.holds c.args.files.now in
-    let of_structures = subst (λ name. IfOk c.complete.result
-    (λ text. IsText told (Completes c.deref-in-Complete.result.now name) text.items)) c.deref-in-Complete-2.ensures
-    c.complete.ensures.found in
-    rw (c.in-Complete.is, c.plain-in-Complete.ensures) (plain_text _ c.complete.result (subst
-    (λ name. IfOk c.complete.result (λ text. IsText told (Completes name c.in-Complete.structures) text.items))
-    c.deref-in-Complete.ensures of_structures))

@@ -1,0 +1,6 @@
+pub mod Growing
+pub mod Known
+pub mod Keeping
+pub mod Levelling
+pub mod Retracing
+pub mod Asking

@@ -1,0 +1,29 @@
+//! Which actions leave nothing free.
+
+ghost use Rattle.std.specs.Prelude.{◌≡◌, ◌↔◌, IsTrue, map};
+ghost use Rattle.tv_heap_steps.specs.Settled.{AreSettled};
+ghost use Rattle.tv_model.specs.Program.{CFree, update_of};
+
+use tv_model::{Change, Update};
+
+/// Whether the update leaves its predicate free.
+fn is_free(update: &Update) -> bool
+    ensures { IsTrue result ↔ ((update_of update.now).change ≡ CFree) }
+{
+    match update.change {
+        Change::Free => true,
+        Change::To(_) => false,
+    }
+}
+
+/// Whether no update leaves its predicate free.
+pub(crate) fn are_settled(updates: &[Update]) -> bool
+    ensures { IsTrue result ↔ AreSettled (map update_of updates.now) }
+{
+    for update in updates {
+        if is_free(update) {
+            return false;
+        }
+    }
+    true
+}

@@ -1,0 +1,3 @@
+pub mod Heaps
+pub mod Judging
+pub mod Listed
