@@ -32,9 +32,9 @@ done
 exec "$kit/toolchain/bin/clang" "\$@"
 END
 chmod +x "$room/kit/toolchain/bin/clang"
-(cd "$here/crates/$crate" && "$room/kit/bin/rt" try --seconds 1 -- demo 1 >/dev/null 2>&1) || true
+(cd "$here/crates/$crate" && "$room/kit/bin/rt" try --seconds 1 -- demo 1 >"$room/told" 2>&1) || true
 module="$(find "$room" -maxdepth 1 -name '*.bc' -size +1M | head -1)"
-[ -n "$module" ] || { echo "bench/unproved.sh: rt try compiled nothing" >&2; exit 1; }
+[ -n "$module" ] || { cat "$room/told" >&2; echo "bench/unproved.sh: rt try compiled nothing of $crate" >&2; exit 1; }
 compile() { "$kit/toolchain/bin/clang" --target=x86_64-unknown-linux-gnu --no-default-config -x ir "$@"; }
 compile -O0 -S -emit-llvm "$module" -o - | grep -v 'call void @llvm.trap()\|llvm.memset.*i8 -86' > "$room/module.ll"
 compile -O3 --sysroot="$kit/toolchain" -march=x86-64 -ffunction-sections -fdata-sections -fPIE -c "$room/module.ll" -o "$room/module.o"

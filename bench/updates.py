@@ -1,8 +1,10 @@
 #!/usr/bin/env python3
 """Tries the updates that a program gives for its defined predicates: bench/updates.py PROGRAM [CELLS] takes each edge's action from every
-heap of at most CELLS cells (3, unless it is said) that meets the rules, for all picked individuals. It tells each update that isn't what the
-definition says afterwards, with a heap of the fewest cells, and of how many steps the new heap breaks a rule (those aren't steps of runs). Heaps
-are taken once, up to the names of their cells. Of free updates and %retain nothing is tried. It ends with 1 where an update differs."""
+heap of at most CELLS cells (3, unless it is said) that meets the rules, for all picked individuals. bench/updates.py PROGRAM CELLS INITIAL
+takes the heaps of so many cells that belong to a structure of INITIAL, and all that runs of at most CELLS cells make of them, each along the
+edges of its node. Both tell each update that isn't what the definition says afterwards, with a heap of the fewest cells, and of how many
+steps the new heap breaks a rule (those aren't steps of runs). Heaps are taken once, up to the names of their cells. It ends with 1 where an
+update differs."""
 import collections, importlib.machinery, importlib.util, itertools, os, sys
 
 loader = importlib.machinery.SourceFileLoader("lint", os.path.join(os.path.dirname(os.path.dirname(os.path.abspath(__file__))), "tvla-lint"))
@@ -117,6 +119,7 @@ class Program:
         tree = Formulas(lint.tokens_of(lint.lines_of(path, 0))).program()
         declared, actions, edges = lint.flat(tree)
         self.edges = list(zip(dict.fromkeys((name, *arguments) for _, name, arguments, _ in edges), actions))
+        self.graph = [(source, (name, *arguments), target) for source, name, arguments, target in edges]
         for (word, *rest), env in declared:
             if word == "%r":
                 continue
@@ -162,17 +165,18 @@ class Program:
         tuples = list(itertools.product(cells, repeat=arity))
         return [set(some) for count in range(len(tuples) + 1) for some in itertools.combinations(tuples, count)]
 
-    def heaps(self, cells):
-        """All heaps that meet the rules, once up to the names of cells; those of two arguments come first."""
+    def heaps(self, cells, values=None):
+        """All heaps that meet the rules, once up to the names of cells; those of two arguments come first. `values` says what a core
+        predicate may hold of, unless it is anything; then heaps are taken as often as they come."""
         order = sorted(self.core, key=lambda name: -self.core[name][0])
         binary = [name for name in order if self.core[name][0] == 2]
         def go_on(at, heap, todo, rules):
-            if at == len(binary) and not is_least(heap):
+            if at == len(binary) and not values and not is_least(heap):
                 return
             if at == len(order):
                 yield heap
                 return
-            for value in self.values(order[at], cells):
+            for value in (values or self.values)(order[at], cells):
                 grown = {**heap, order[at]: value}
                 left = self.define(grown, cells, todo)
                 known = [rule for rule in rules if all(it in grown for it in rule[3])]
@@ -184,59 +188,159 @@ class Program:
         start = {}
         yield from go_on(0, start, self.define(start, cells, list(self.defined)), self.rules)
 
+    def belonging(self, structure, most):
+        """The heaps of at most so many cells that belong to the structure, and their cells."""
+        names, said = structure
+        for counts in itertools.product(*(range(1, most + 1) if at in said["sm"] else [1] for at in names)):
+            of = [name for name, count in zip(names, counts) for _ in range(count)]
+            if len(of) > most:
+                continue
+            cells = list(range(len(of)))
+            def allows(name, at, value):
+                told = said.get(name, {}).get(sum((of[u] for u in at), ()), "0")
+                return told == "1/2" or (told == "1") == value
+            def values(name, cells):
+                tuples = list(itertools.product(cells, repeat=self.core[name][0]))
+                fits = [it for it in tuples if allows(name, it, True)]
+                if "function" in self.core[name][1] or "unique" in self.core[name][1]:
+                    found = (it for it in self.values(name, cells) if it <= set(fits))
+                else:
+                    sure = [it for it in fits if not allows(name, it, False)]
+                    free = [it for it in fits if it not in sure]
+                    found = ({*sure, *some} for count in range(len(free) + 1) for some in itertools.combinations(free, count))
+                return [it for it in found if all(allows(name, at, at in it) for at in tuples)]
+            for heap in self.heaps(cells, values):
+                if all(allows(name, at, at in heap[name]) for name, (variables, _, _) in self.defined.items()
+                       for at in itertools.product(cells, repeat=len(variables))):
+                    yield {name: heap[name] for name in (*self.core, *self.defined)}, cells
+
+    def least(self, heap, cells):
+        """The heap as it is written for all that differ in the names of their cells alone."""
+        names = sorted(self.core)
+        def about(u):
+            return tuple((sum(at[0] == u for at in it), sum(at[-1] == u for at in it), (u, u) in it) for it in (heap[name] for name in (*names, *self.defined))
+                         if it and () not in it)
+        alike = collections.defaultdict(list)
+        for u in cells:
+            alike[about(u)].append(u)
+        texts = []
+        for orders in itertools.product(*(itertools.permutations(alike[it]) for it in sorted(alike))):
+            to = {u: number for number, u in enumerate(itertools.chain(*orders))}
+            texts.append(tuple(tuple(sorted(tuple(to[u] for u in at) for at in heap[name])) for name in names))
+        return len(cells), min(texts)
+
 class Action:
     def __init__(self, parts, program):
         of = collections.defaultdict(list)
         for word, part, env in parts:
             of[word].append((part, env))
-        self.is_new, self.is_tried, self.updates = "%new" in of, "%retain" not in of, {}
+        self.is_new, self.kept, self.free, self.updates = "%new" in of, None, [], {}
         self.picked, self.allows = [], lambda *_: True
         for formula, env in of["%p"]:
             self.picked = free(formula)
             self.allows = compiled(formula, env, self.picked)[0]
+        for formula, env in of["%retain"]:
+            own = next((it for it in free(formula) if it not in self.picked), "_")
+            self.kept = compiled(formula, env, [*self.picked, own])[0]
         for updates, _ in of["{"]:
             for (name, variables, formula), env in updates:
-                self.is_tried &= formula != ("value", "1/2")
-                self.updates[lint.spelled(name, env)] = len(variables), compiled(formula, env, [*self.picked, *variables])[0]
+                text = lint.spelled(name, env)
+                if formula == ("value", "1/2"):
+                    self.free.append(text)
+                else:
+                    self.updates[text] = len(variables), compiled(formula, env, [*self.picked, *variables])[0]
 
     def steps(self, program, heap, cells):
-        """For all that may be picked: the heap afterwards, its cells, and what the given updates of defined predicates say."""
-        fresh = len(cells) if self.is_new else None
+        """For all that may be picked, and all that free updates may give: the heap afterwards, its cells, and what the given updates of
+        defined predicates say."""
+        fresh = next(u for u in range(len(cells) + 1) if u not in cells) if self.is_new else None
         middle = [*cells, fresh] if self.is_new else cells
         for picks in itertools.product(cells, repeat=len(self.picked)):
             if not self.allows(heap, cells, None, *picks):
                 continue
-            said = {name: {at for at in itertools.product(middle, repeat=arity) if holds(heap, middle, fresh, *picks, *at)}
+            left = [u for u in middle if not self.kept or self.kept(heap, middle, fresh, *picks, u)]
+            said = {name: {at for at in itertools.product(left, repeat=arity) if holds(heap, middle, fresh, *picks, *at)}
                     for name, (arity, holds) in self.updates.items()}
-            after = {name: said.get(name, heap[name]) for name in program.core}
-            program.define(after, middle, list(program.defined))
-            yield after, middle, {name: it for name, it in said.items() if name in program.defined}
+            for values in itertools.product(*(program.values(name, left) for name in self.free)):
+                given = {**said, **dict(zip(self.free, values))}
+                after = {name: given[name] if name in given else {at for at in heap[name] if set(at) <= set(left)} for name in program.core}
+                program.define(after, left, list(program.defined))
+                yield after, left, {name: it for name, it in said.items() if name in program.defined}
 
 def told(heap, program):
     return ", ".join(f"{name} = {{{', '.join('->'.join(map(str, at)) for at in sorted(heap[name]))}}}" for name in program.core if heap[name])
 
-def main(path, most="3"):
-    program, counts, differs = Program(path), collections.Counter(), {}
-    actions = [(call, Action(parts, program)) for call, parts in program.edges]
-    for size in range(int(most) + 1):
-        cells = list(range(size))
-        for heap in program.heaps(cells):
-            counts["heaps"] += 1
-            for (name, *arguments), action in actions:
-                for after, middle, said in action.steps(program, heap, cells) if action.is_tried else ():
-                    counts["steps"] += 1
-                    wrong = [it for it in said if said[it] != after[it]]
-                    if wrong and not program.first_broken(after, middle, program.rules):
-                        differs.setdefault((f"{name}({', '.join(arguments)})", wrong[0]), (size, told(heap, program)))
-                        counts["updates that differ"] += 1
-                    elif wrong or program.first_broken(after, middle, program.rules):
-                        counts["steps that break a rule"] += 1
-    for (call, name), (size, heap) in differs.items():
+def structures(path):
+    """Of each structure its individuals and, of each predicate, what isn't 0."""
+    reader, found = lint.Reader(lint.tokens_of(lint.lines_of(path))), []
+    while not reader.peek(""):
+        reader.at += 3
+        names, said = [(name,) for name in reader.list("}")], collections.defaultdict(dict)
+        reader.at += 3
+        while not reader.take("}"):
+            of = said[lint.spelled(reader.name(), {})]
+            reader.next()
+            if not reader.take("{"):
+                of[()] = str(reader.next())
+                continue
+            while not reader.take("}"):
+                at = (reader.next(), *([reader.next()] if reader.take("->") else []))
+                of[at] = str(reader.next()) if reader.take(":") else "1"
+                reader.take(",")
+        found.append((names, said))
+    return found
+
+class Trial:
+    def __init__(self, program):
+        self.program, self.counts, self.differs = program, collections.Counter(), {}
+        self.actions = {call: Action(parts, program) for call, parts in program.edges}
+
+    def step(self, call, heap, cells):
+        """The heaps behind the step that meet the rules, each with its cells."""
+        (name, *arguments), program = call, self.program
+        for after, left, said in self.actions[call].steps(program, heap, cells):
+            self.counts["steps"] += 1
+            wrong = [it for it in said if said[it] != after[it]]
+            if program.first_broken(after, left, program.rules):
+                self.counts["steps that break a rule"] += 1
+                continue
+            if wrong:
+                self.differs.setdefault((f"{name}({', '.join(arguments)})", wrong[0]), (len(cells), told(heap, program)))
+                self.counts["updates that differ"] += 1
+            yield after, left
+
+    def every_heap(self, most):
+        for size in range(most + 1):
+            for heap in self.program.heaps(list(range(size))):
+                self.counts["heaps"] += 1
+                for call in self.actions:
+                    for _ in self.step(call, heap, list(range(size))):
+                        pass
+
+    def runs(self, most, initial):
+        waiting, met = collections.deque(), set()
+        def meet(node, heap, cells):
+            key = node, self.program.least(heap, cells)
+            if len(cells) <= most and key not in met:
+                met.add(key)
+                waiting.append((node, heap, cells))
+        for structure in structures(initial):
+            for heap, cells in self.program.belonging(structure, most):
+                meet(self.program.graph[0][0], heap, cells)
+        while waiting:
+            node, heap, cells = waiting.popleft()
+            self.counts["heaps"] += 1
+            for _, call, target in (edge for edge in self.program.graph if edge[0] == node):
+                for after, left in self.step(call, heap, cells):
+                    meet(target, after, left)
+
+def main(path, most="3", *initial):
+    trial = Trial(Program(path))
+    trial.runs(int(most), *initial) if initial else trial.every_heap(int(most))
+    for (call, name), (size, heap) in sorted(trial.differs.items(), key=lambda it: it[1][0]):
         print(f"{call}: the update of {name} differs, {size} cells: {heap or 'nothing holds'}")
-    skipped = [f"{name}({', '.join(arguments)})" for (name, *arguments), action in actions if not action.is_tried]
-    print(f"{path}: " + ", ".join(f"{counts[it]:,} {it}" for it in ("heaps", "steps", "steps that break a rule", "updates that differ"))
-          + (f"; not tried: {', '.join(skipped)}" if skipped else ""))
-    return bool(differs)
+    print(f"{path}: " + ", ".join(f"{trial.counts[it]:,} {it}" for it in ("heaps", "steps", "steps that break a rule", "updates that differ")))
+    return bool(trial.differs) or not trial.counts["heaps"]
 
 if __name__ == "__main__":
     sys.exit(main(*sys.argv[1:]))

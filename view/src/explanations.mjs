@@ -50,6 +50,8 @@ export class Explanation {
       default: line.fault("a line of tvla-explain");
     }
   }
+  /** The edges of a chain. */
+  get chainEdges() { return this.steps.flatMap(({ edge }) => edge ?? []); }
   /** The place of an edge in a program, and the edge. */
   head(line) {
     const [text, file, number, source, name, given, target] = line.match(HEAD, "`FILE:LINE`, two blanks and an edge");

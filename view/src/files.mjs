@@ -128,11 +128,29 @@ export class Given {
   }
 }
 
-/** The files of a drop: those of folders too, with their paths. */
+/** The files of a drop: those of folders too, with their paths. All is asked for before anything is awaited, for a drop ends then. */
 export const droppedFiles = async transfer => {
-  const entries = [...transfer.items].map(item => item.webkitGetAsEntry?.()).filter(entry => entry);
-  if (!entries.length) return Promise.all([...transfer.files].map(file => readFile(file, file.name)));
-  return (await Promise.all(entries.map(entry => entryFiles(entry)))).flat();
+  const items = [...transfer.items].filter(({ kind = "file" }) => kind === "file").map(item =>
+    ({ entry: item.webkitGetAsEntry?.(), file: item.getAsFile?.(), handle: item.getAsFileSystemHandle?.().catch(() => null) }));
+  if (!items.length) return Promise.all([...transfer.files].map(file => readFile(file, file.name)));
+  return (await Promise.all(items.map(droppedItem))).flat();
+};
+/** A file as it is; a folder by its entries or, where these can't be read, as by Chromium on a page from disk, by its handle. */
+const droppedItem = async ({ entry, file, handle }) => {
+  if (file && !entry?.isDirectory) return [await readFile(file, file.name)];
+  try {
+    return await entryFiles(entry);
+  } catch (fault) {
+    const folder = await handle;
+    if (!folder) throw fault;
+    return handleFiles(folder, "");
+  }
+};
+const handleFiles = async (handle, path) => {
+  if (handle.kind === "file") return [await readFile(await handle.getFile(), path + handle.name)];
+  const inner = [];
+  for await (const one of handle.values()) inner.push(...await handleFiles(one, `${path}${handle.name}/`));
+  return inner;
 };
 export const readFile = async (file, path) => new GivenFile(path || file.name, new Uint8Array(await file.arrayBuffer()));
 const entryFiles = async entry => {

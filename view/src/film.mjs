@@ -50,18 +50,19 @@ export const runFrames = (page, place) => {
     ...steps.map(({ edge, result, to }) => frame(to, { edge, title: `${page.edgeWords(edge)}: result ${result} belongs to ${report.title(to)}` }))];
 };
 
-/** Gives the cells of each frame the colours of those from which they come, and says what changed. */
+/** Gives the cells of each frame the colours of those from which they come, and says what changed. Where a frame doesn't tell from which
+    cells of which frame they come, it's the one in front, by the program. */
 export const follow = (frames, program, edges, roles) => {
   let fresh = 0;
   const next = () => [PALETTE[fresh++ % PALETTE.length]];
   frames.forEach((frame, i) => {
-    const last = frames[i - 1], { structure, edge, message } = frame;
+    const last = frame.before ?? frames[i - 1], { structure, edge, message } = frame;
     if (!structure || frame.colours) return;
     if (message && last?.colours) {
       frame.colours = last.colours;
       return;
     }
-    const from = last?.structure && edge !== undefined && edges[edge] ? origins(program, edges[edge], last.structure, structure) : null;
+    const from = frame.from ?? (last?.structure && edge !== undefined && edges[edge] ? origins(program, edges[edge], last.structure, structure) : null);
     if (!from) {
       frame.colours = i === 0 ? structure.cells.map(next) : [];
       return;
@@ -75,6 +76,8 @@ export const follow = (frames, program, edges, roles) => {
 export class Film {
   constructor(page) { Object.assign(this, { page, films: [], chosen: 0, at: 0 }); }
   get frames() { return this.films[this.chosen]?.frames ?? []; }
+  /** How predicates are drawn: as on the page, but of a film of its own vocabulary. */
+  get roles() { return this.films[this.chosen]?.roles ?? this.page.roles; }
   show(films, chosen = 0) {
     Object.assign(this, { films, chosen, at: 0 });
     this.redraw();
@@ -91,10 +94,11 @@ export class Film {
     byId("film").hidden = !frames.length;
     byId("film").replaceChildren();
     page.graph?.markEdge(undefined);
+    page.text?.markEdge(undefined);
     if (!frames.length) return;
-    follow(frames, page.program, page.edges, page.roles);
+    follow(frames, page.program, page.edges, this.roles);
     const structures = frames.flatMap(({ structure }) => structure ?? []).filter(({ size }) => size <= 60);
-    this.plan = new Plan([...new Set(structures)], page.roles);
+    this.plan = new Plan([...new Set(structures)], this.roles);
     this.heading = html("h2", { className: "apart", "aria-live": "polite" });
     this.strip = html("ol", { className: "strip", start: 0 }, ...frames.map((frame, i) => this.frame(frame, i)));
     this.told = html("p", { className: "told" });
@@ -110,17 +114,18 @@ export class Film {
     return [select];
   }
   drawing({ structure, colours, changes }) {
-    return new Drawing(structure, this.page.roles, { plan: this.plan, colours, marks: changes?.marks, changed: changes?.arrows });
+    return new Drawing(structure, this.roles, { plan: this.plan, colours, marks: changes?.marks, changed: changes?.arrows });
   }
   frame(frame, i) {
-    const { title, structure, node, index } = frame, children = [button(title, () => this.go(i))];
+    const { title, structure, node, index, words = [] } = frame, children = [button(title, () => this.go(i))];
     if (structure) {
-      const drawing = this.drawing(frame), element = drawingElement(drawing, title, structureWords(structure, this.page.roles));
+      const drawing = this.drawing(frame), element = drawingElement(drawing, title, structureWords(structure, this.roles));
       element.style.cssText = `width: ${Math.min(drawing.width, 520)}px; height: ${Math.min(drawing.height, 230)}px`;
       element.addEventListener("click", () => this.go(i));
       children.push(element);
     }
     if (node !== undefined && index !== undefined) children.push(link(Links.structure(node, index), `${node}/${index}`));
+    if (words.length) children.push(html("p", { className: frame.isFault ? "note empty" : "note", textContent: words.join("; ") }));
     return html("li", frame.isDropped ? { className: "dropped" } : {}, ...children);
   }
   step(by) { if (this.frames[this.at + by]) this.go(this.at + by); }
@@ -131,7 +136,8 @@ export class Film {
     [...this.strip.children].forEach((item, i) => i === at ? item.setAttribute("aria-current", "step") : item.removeAttribute("aria-current"));
     const item = this.strip.children[at];
     this.strip.scrollLeft = item.offsetLeft - this.strip.offsetLeft - (this.strip.clientWidth - item.offsetWidth) / 2;
-    const told = message ? [`“${message.text}” ${message.value === Kleene.YES ? "is true" : "may be true"} of this structure`] : words ?? changes?.words ?? [];
+    const told = message ? [`“${message.text}” ${message.value === Kleene.YES ? "is true" : "may be true"} of this structure`]
+      : [...words ?? [], ...changes?.words ?? []];
     Object.assign(this.told, { textContent: told.join("; "), className: message || isFault ? "told empty" : "told" });
     this.page.graph?.markEdge(edge);
     this.page.text?.markEdge(edge);

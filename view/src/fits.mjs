@@ -22,9 +22,15 @@ const differentNode = (program, report) => {
   return "";
 };
 
+const plural = arity => `${arity} argument${arity === 1 ? "" : "s"}`;
+/** The first predicate that has another number of arguments than one of that name that is known, as a sentence, or "". */
+export const differentArity = (known, census) => {
+  const found = [...census.facts.values()].find(({ name, arity }) => (known.get(name)?.arity ?? arity) !== arity);
+  return found ? `${found.name} has ${plural(found.arity)} here, and ${plural(known.get(found.name).arity)} in what is shown` : "";
+};
+
 /** With files that weren't given some predicates aren't known. */
 export const differentPredicate = (program, census) => {
-  const plural = arity => `${arity} argument${arity === 1 ? "" : "s"}`;
   for (const { name, arity } of census.facts.values()) {
     const declared = program.predicates.get(name);
     if (!declared && program.knowsPredicates) return `the program doesn't declare ${name}`;

@@ -14,6 +14,7 @@ export class Gallery {
     this.measure();
   }
   measure() {
+    if (this.isHeld) return;
     const room = this.scroller.clientWidth - 8, first = this.first;
     const columns = this.fixed || Math.max(1, Math.min(this.count, Math.floor(room / (this.least + 8)))) || 1;
     if (this.room === room && this.columns === columns) return this.render();
@@ -31,6 +32,7 @@ export class Gallery {
     return this.tall > Gallery.TALLEST ? (this.tall - view) / (Gallery.TALLEST - view) : 1;
   }
   render() {
+    if (this.isHeld) return;
     const { scrollTop, clientHeight } = this.scroller, top = scrollTop * this.pace, row = this.height + 8;
     if (!this.tall || !clientHeight) return;
     const from = Math.max(0, Math.floor((top - 300) / row) * this.columns);
@@ -43,6 +45,15 @@ export class Gallery {
       }
     for (let i = from; i < to; i++) if (!this.cards.has(i)) this.add(i);
     for (const [i, element] of this.cards) this.put(element, i, top - scrollTop);
+  }
+  /** Makes the first `most` cards, whether in view or not, and leaves them alone until they are released. */
+  hold(most) {
+    this.isHeld = true;
+    for (let i = 0; i < Math.min(this.count, most); i++) if (!this.cards.has(i)) this.add(i);
+  }
+  release() {
+    this.isHeld = false;
+    this.measure();
   }
   add(i) {
     const element = this.card(i), after = Math.min(...[...this.cards.keys()].filter(j => j > i));

@@ -152,7 +152,7 @@ export class GraphDrawing {
 export class ControlGraph {
   /** It is to stand in `scroller`. */
   constructor(nodes, edges, count, warned, scroller) {
-    Object.assign(this, { nodes, edges, count, warned, isTable: edges.length > MOST_DRAWN || nodes.length > MOST_DRAWN });
+    Object.assign(this, { nodes, edges, count, warned, scroller, isTable: edges.length > MOST_DRAWN || nodes.length > MOST_DRAWN });
     this.drawing = this.isTable ? null : new GraphDrawing(nodes, edges, count, warned);
     this.around = html("div");
     this.element = html("div", {}, ...this.isTable ? [this.around, this.table(scroller)] : [ControlGraph.element(this.drawing)]);
@@ -186,9 +186,16 @@ export class ControlGraph {
       if (box.dataset.node !== name) box.removeAttribute("aria-current");
       else {
         box.setAttribute("aria-current", "true");
-        box.scrollIntoView?.({ block: "nearest", inline: "nearest" });
+        this.reveal(box);
       }
     }
+  }
+  /** Scrolls what is drawn into view; not every browser does so by itself with parts of drawings. */
+  reveal(part) {
+    const own = part.getBoundingClientRect(), room = this.scroller.getBoundingClientRect();
+    if (own.top < room.top) this.scroller.scrollTop += own.top - room.top - 40;
+    else if (own.bottom > room.bottom) this.scroller.scrollTop += own.bottom - room.bottom + 40;
+    if (own.left < room.left || own.right > room.right) this.scroller.scrollLeft += own.left - room.left - 20;
   }
   showAround(name) {
     this.current = name;

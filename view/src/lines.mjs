@@ -66,13 +66,22 @@ export class LineReader {
   }
   /** The structure that stands from here to the end of the line, each part behind two blanks. */
   structure() {
-    const individuals = [], flags = [];
+    const begin = this.at, individuals = [], flags = [];
     while (!this.isAtEnd) {
       this.take("  ");
       if (!flags.length && this.sees("(")) individuals.push(this.individual(individuals.length));
       else flags.push(this.valued(0));
     }
-    return this.built(individuals, flags);
+    const structure = this.built(individuals, flags);
+    this.compare(begin, structure);
+    return structure;
+  }
+  /** Refuses what isn't written so: twice, or in another order than here or in the lines above. */
+  compare(begin, structure) {
+    const text = Line.write(structure, this.census.ordered), written = text && `  ${text}`, found = this.source.slice(begin, this.end);
+    if (found === written) return;
+    const same = [...written].findIndex((letter, i) => found[i] !== letter), at = same < 0 ? written.length : same;
+    this.fault(at < written.length ? `\`${written.slice(at, at + 40)}\`` : "the end of the line", begin + at);
   }
   individual(number) {
     const start = this.at, isSummary = this.opens(), isNumbered = this.sees("#"), own = [], arrows = [];
@@ -125,7 +134,7 @@ export class LineReader {
   places(individuals) {
     const places = new Map(), seen = new Set();
     individuals.forEach(({ own }, u) => {
-      for (const { name, value } of own.filter(({ value }) => value === Kleene.YES))
+      for (const name of new Set(own.filter(({ value }) => value === Kleene.YES).map(({ name }) => name)))
         seen.has(name) ? places.delete(name) : places.set(name, u) && seen.add(name);
     });
     individuals.forEach(({ own, isNumbered, start }, u) => {

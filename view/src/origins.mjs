@@ -12,8 +12,36 @@ export const origins = (program, edge, from, to) => {
   const effect = program.effect(edge), before = effect.isNew ? withNew(from) : from, values = valuesAfter(program, effect, before);
   const candidates = to.cells.map(w => before.cells.filter(u => isKept(effect, before, u)
     && values.every(({ arity, value, name }) => arity !== 1 || Kleene.agree(value(u), to.value(name, w)))));
-  narrow(candidates, before, to, values.filter(({ arity }) => arity === 2));
-  return candidates.some(list => !list.length) ? null : candidates;
+  const binary = values.filter(({ arity }) => arity === 2);
+  const fits = (u, w, v, x) => binary.every(({ name, value }) =>
+    Kleene.agree(value(u, v), to.value(name, w, x)) && Kleene.agree(value(v, u), to.value(name, x, w)));
+  return narrowed(candidates, fits, u => !before.isSummary(u));
+};
+
+/* Origins in the stages of a step. Cells keep their order but for blur. */
+export const sameCells = (from, to) => from.size === to.size ? to.cells.map(u => [u]) : null;
+/** A choice of focus: a cell more stands behind the summary of which it is a part; of several that it may be each. */
+export const focusOrigins = (from, to) => {
+  if (to.size !== from.size + 1) return sameCells(from, to);
+  const fits = fitsBy(from, to, Kleene.agree), split = u => to.cells.map(w => w > u ? w - 1 : w);
+  const ways = from.cells.filter(u => from.isSummary(u)).map(split).filter(way => to.cells.every(w => to.cells.every(x => fits(way[w], w, way[x], x))));
+  return ways.length ? to.cells.map(w => [...new Set(ways.map(way => way[w]))]) : null;
+};
+/** An update: a cell more is a new one, the last, and of fewer each may be one of those that can stand at its place. */
+export const updateOrigins = (from, to) => to.cells.map(w => from.size < to.size ? [Math.min(w, from.size)]
+  : from.cells.slice(w, w + 1 + from.size - to.size).filter(u => from.isSummary(u) === to.isSummary(w)));
+/** Blur: the cells that become one, whose values are those of it or are unknown there. */
+export const blurOrigins = (from, to) => {
+  const fits = fitsBy(from, to, (value, blurred) => blurred === Kleene.MAYBE || value === blurred);
+  return narrowed(to.cells.map(w => from.cells.filter(u => fits(u, w, u, w))), fits, () => true);
+};
+/** Whether all predicates allow that u becomes w and v becomes x. */
+const fitsBy = (from, to, allows) => {
+  const names = [...new Set([...from.tables.keys(), ...to.tables.keys()])], arity = name => (from.tables.get(name) ?? to.tables.get(name)).arity;
+  const unary = names.filter(name => arity(name) === 1), binary = names.filter(name => arity(name) === 2);
+  const fitsOne = (u, w) => unary.every(name => allows(from.value(name, u), to.value(name, w)));
+  return (u, w, v, x) => fitsOne(u, w) && fitsOne(v, x)
+    && binary.every(name => allows(from.value(name, u, v), to.value(name, w, x)) && allows(from.value(name, v, u), to.value(name, x, w)));
 };
 
 /** A structure with one further cell, of which nothing holds but that it is new. */
@@ -72,20 +100,19 @@ const freeVariables = (formula, bound = new Set()) => {
   return new Set([...own, ...parts.filter(part => part).flatMap(part => [...freeVariables(part, inner)])]);
 };
 
-/** Takes out what fits with no origin of another cell; and a single cell is the origin of one cell alone. */
-const narrow = (candidates, from, to, binary) => {
-  const fits = (u, w, v, x) => binary.every(({ name, value }) =>
-    Kleene.agree(value(u, v), to.value(name, w, x)) && Kleene.agree(value(v, u), to.value(name, x, w)));
+/** Takes out what fits with no origin of another cell; and what goes to one cell alone is the origin of no other. Null where nothing is left. */
+const narrowed = (candidates, fits, goesToOne) => {
   for (let isChanged = true; isChanged;) {
     isChanged = false;
     candidates.forEach((list, w) => {
       const left = list.filter(u => fits(u, w, u, w) && candidates.every((others, x) => x === w || others.some(v => fits(u, w, v, x)))
-        && !candidates.some((others, x) => x !== w && others.length === 1 && others[0] === u && !from.isSummary(u)));
+        && !candidates.some((others, x) => x !== w && others.length === 1 && others[0] === u && goesToOne(u)));
       if (left.length === list.length) return;
       candidates[w] = left;
       isChanged = true;
     });
   }
+  return candidates.some(list => !list.length) ? null : candidates;
 };
 
 /** What changed between two structures whose cells come from one another, as marks and as words. */
@@ -104,6 +131,11 @@ export const changes = (from, to, cellsFrom, roles) => {
         words.push(`${name} from ${to.individuals[w]} to ${to.individuals[x]} was ${Kleene.text(from.value(name, origin(w), origin(x)))} and is ${Kleene.text(to.value(name, w, x))}`);
       }
   for (const w of to.cells.filter(w => cellsFrom[w].includes(from.size) && cellsFrom[w].length === 1)) words.push(`${to.individuals[w]} is new`);
+  for (const w of to.cells.filter(w => origin(w) >= 0 && origin(w) < from.size)) {
+    const others = to.cells.filter(x => x < w && origin(x) === origin(w));
+    if (others.length) words.push(`${to.individuals[w]} is a part of what was ${from.individuals[origin(w)]}`);
+    else if (from.isSummary(origin(w)) && !to.isSummary(w)) words.push(`${to.individuals[w]} is one cell`);
+  }
   return { marks: [...marks], arrows, words };
 };
 const moved = (from, to, name) => {

@@ -4,7 +4,7 @@ import { byId, html, button, link } from "./dom.mjs";
 import { Links } from "./links.mjs";
 import { Given } from "./files.mjs";
 import { ShownListing } from "./explanations.mjs";
-import { firstDifference, differentEdge, differentPredicate } from "./fits.mjs";
+import { firstDifference, differentArity, differentEdge, differentPredicate } from "./fits.mjs";
 import { Program } from "./programs.mjs";
 import { Roles } from "./roles.mjs";
 import { Line } from "./lines.mjs";
@@ -16,7 +16,6 @@ import { ControlGraph, GRAPH_STYLE } from "./graph.mjs";
 import { Search } from "./search.mjs";
 import { Large, save } from "./large.mjs";
 import { chainFrames, replayFrames, runFrames } from "./film.mjs";
-import { stageFrames } from "./stages.mjs";
 import { Runs } from "./runs.mjs";
 import { pairsOf, messagesAlone } from "./compare.mjs";
 
@@ -50,27 +49,43 @@ export const Page = {
   },
   /** Finds out what belongs together. */
   gather() {
-    const { given } = this, show = given.explanations.get("show")?.explanation;
+    const { given } = this, of = kind => given.explanations.get(kind)?.explanation, show = of("show"), told = of("edges")?.edges;
     this.report = given.reports[0]?.listing ?? (show ? new ShownListing(show) : null);
-    const chain = given.explanations.get("chain")?.explanation, told = given.explanations.get("edges")?.explanation.edges;
-    const chainEdges = chain?.steps.flatMap(({ edge }) => edge ?? []) ?? [];
-    given.choose(program => (this.report ? firstDifference(program, this.report) : "")
-      || (told ? differentEdge(program, told) : "")
-      || (!this.report && chain ? differentEdge(program, chainEdges) || differentPredicate(program, chain.census) : ""));
+    given.choose(program => (this.report ? firstDifference(program, this.report) : "") || (told ? differentEdge(program, told) : "")
+      || (this.report ? "" : Page.differentRest(program, given)));
     this.program = given.program ?? (told ? this.programOfEdges(told) : null);
     this.edges = (this.program?.edges ?? []).map((edge, i) => told ? { ...edge, file: told[i].file } : edge);
     if (this.program?.missing.length)
       given.problems.push(`Included files that weren't given: ${this.program.missing.join(", ")}.`);
-    if (this.second && [...this.second.nodes.keys()].join() !== [...this.report.nodes.keys()].join()) {
-      given.problems.push(`${given.reports[1].file.path} isn't compared: its nodes aren't those of ${given.reports[0].file.path}.`);
-      given.reports.pop();
-    }
+    const known = new Map([...this.program?.predicates.values() ?? [], ...this.report?.census.facts.values() ?? []].map(fact => [fact.name, fact]));
+    this.gatherSecond(known);
+    this.structures = given.structures.filter(({ file, listing }) => this.agrees(known, listing.census, `${file.path} isn't shown`));
     if (this.report && !this.report.places.length) given.problems.push("No node has a structure.");
-    const names = [...this.program?.nodes ?? [], ...this.report?.nodes.keys() ?? []];
-    this.names = [...new Set(names)];
-    this.roles = this.rolesOf(chain ?? given.explanations.get("stages")?.explanation);
+    this.names = [...new Set([...this.program?.nodes ?? [], ...this.report?.nodes.keys() ?? []])];
+    const films = this.filmsOf(of("chain"), of("stages"), known);
+    this.roles = this.rolesOf(films.filter(({ isForeign, census }) => census && !isForeign));
+    for (const film of films) if (film.isForeign) film.roles = new Roles([film.census], null, film.frames.flatMap(({ structure }) => structure ?? []));
     this.runs = this.report && this.edges.length ? new Runs(this.report, this.edges) : null;
-    this.films = this.filmsOf(chain, chainEdges);
+    this.films = [...films, ...given.replay ? [{ title: `Replay: ${given.replay.file.path}`, frames: replayFrames(given.replay.replay, this) }] : []];
+  },
+  /** The first difference of a program from what was given without a report. */
+  differentRest(program, { explanations, structures }) {
+    const of = kind => explanations.get(kind)?.explanation, chain = of("chain"), censuses = [chain, of("stages")].flatMap(it => it?.census ?? []);
+    return (chain ? differentEdge(program, chain.chainEdges) : "")
+      || [...censuses, ...structures.map(({ listing }) => listing.census)].map(census => differentPredicate(program, census)).find(text => text) || "";
+  },
+  /** Whether predicates have as many arguments as in what is shown already, to which the others are added; else it's told. */
+  agrees(known, census, told) {
+    const difference = differentArity(known, census);
+    if (difference) this.given.problems.push(`${told}, since it doesn't fit: ${difference}.`);
+    else for (const fact of census.facts.values()) if (!known.has(fact.name)) known.set(fact.name, fact);
+    return !difference;
+  },
+  gatherSecond(known) {
+    if (!this.second) return;
+    const { file } = this.given.reports[1], isAlike = [...this.second.nodes.keys()].join() === [...this.report.nodes.keys()].join();
+    if (!isAlike) this.given.problems.push(`${file.path} isn't compared: its nodes aren't those of ${this.given.reports[0].file.path}.`);
+    if (!isAlike || !this.agrees(known, this.second.census, `${file.path} isn't compared`)) this.given.reports.pop();
   },
   programOfEdges(told) {
     const program = Program.ofEdges(told), difference = this.report ? firstDifference(program, this.report) : "";
@@ -80,41 +95,51 @@ export const Page = {
   },
   /** The report with which the first one is compared, if there is one. */
   get second() { return this.given.reports[1]?.listing ?? null; },
-  get listings() { return [...this.report ? [this.report] : [], ...this.second ? [this.second] : [], ...this.given.structures.map(({ listing }) => listing)]; },
-  rolesOf(chain) {
+  structures: [], // files of them
+  get listings() { return [...this.report ? [this.report] : [], ...this.second ? [this.second] : [], ...this.structures.map(({ listing }) => listing)]; },
+  /** The roles of predicates in what is listed, and in these films. */
+  rolesOf(films) {
     const { listings } = this, samples = [], sampled = listings[0], total = sampled?.places.length ?? 0;
     for (let place = 0; place < total; place += Math.max(1, Math.floor(total / SAMPLE))) samples.push(sampled.structure(place));
-    const steps = [...chain?.steps ?? [], ...chain?.stages.lines ?? []].flatMap(({ structure }) => structure ?? []);
-    const censuses = [...listings.map(({ census }) => census), ...chain ? [chain.census] : []];
-    return new Roles(censuses, this.program, total ? samples : steps);
+    const frames = films.flatMap(film => film.frames).flatMap(({ structure }) => structure ?? []);
+    return new Roles([...listings, ...films].map(({ census }) => census), this.program, total ? samples : frames);
   },
-  filmsOf(chain, chainEdges) {
-    const films = [], { given, program } = this;
+  /** What tvla-explain wrote as films; what doesn't fit is drawn by itself. */
+  filmsOf(chain, stages, known) {
+    const films = [], { program } = this;
     if (chain) {
-      const difference = program && (differentEdge(program, chainEdges) || differentPredicate(program, chain.census));
-      if (difference) given.problems.push(`The chain isn't shown with this program, since it doesn't fit: ${difference}.`);
-      films.push({ title: "Chain of tvla-explain", frames: chainFrames(chain, !difference) });
+      const difference = program && differentEdge(program, chain.chainEdges);
+      if (difference) this.given.problems.push(`The chain isn't shown with this program, since it doesn't fit: ${difference}.`);
+      films.push({ title: "Chain of tvla-explain", frames: chainFrames(chain, !difference), census: chain.census });
     }
-    const step = given.explanations.get("stages")?.explanation;
-    if (step) films.push({ title: "Stages of a step", frames: stageFrames(step.stages) });
-    if (given.replay) films.push({ title: `Replay: ${given.replay.file.path}`, frames: replayFrames(given.replay.replay, this) });
+    films.push(...(stages?.stages.films ?? []).map(film => ({ ...film, census: stages.census })));
+    for (const census of new Set(films.map(film => film.census))) {
+      const isForeign = !this.agrees(known, census, "What tvla-explain wrote isn't shown with the rest");
+      for (const film of films) if (film.census === census) Object.assign(film, { isForeign });
+    }
     return films;
   },
   /** Shows anew all that rests on the files. */
   refresh() {
-    const hasAny = Boolean(this.report || this.program || this.films.length || this.given.structures.length);
+    const hasAny = Boolean(this.report || this.program || this.films.length || this.structures.length);
     byId("start").hidden = hasAny;
     byId("compare").hidden = !this.report;
     byId("allToo").hidden = !this.second;
     document.querySelector("main").hidden = !hasAny;
+    this.showParts(this.names.length > 0 || this.structures.length > 0);
     Object.assign(this, { found: new Map(), plans: new Map() });
     this.showPredicates();
     this.text.show(this.program);
     this.showGraph();
     this.showMessages();
     this.film.show(this.films);
-    const first = this.names.find(name => this.count(name)) ?? this.given.structures[0]?.listing.places[0]?.name ?? this.names[0];
+    const first = this.names.find(name => this.count(name)) ?? this.structures[0]?.listing.places[0]?.name ?? this.names[0];
     if (!this.follow()) this.showNode(first ?? "");
+  },
+  /** Leaves away what is empty where there are films alone. */
+  showParts(hasListing) {
+    document.querySelector("main").classList.toggle("bare", !hasListing);
+    for (const element of [byId("side"), byId("listing"), byId("title").parentElement]) element.hidden = !hasListing;
   },
   listingOf(name) { return this.listings.find(({ nodes }) => nodes.has(name)); },
   count(name) { return this.listingOf(name)?.nodes.get(name).count ?? 0; },
@@ -136,7 +161,7 @@ export const Page = {
       if (edge !== undefined) warned.set(edge, [...warned.get(edge) ?? [], `loses ${lost} of ${listed}`]);
     this.graph = new ControlGraph(this.names, this.edges, name => this.count(name), warned, byId("graph"));
     const hint = this.edges.length || !this.report ? "" : "Open the program's text, too, to see its edges.";
-    const files = this.given.structures.map(({ listing, file }) => html("li", {},
+    const files = this.structures.map(({ listing, file }) => html("li", {},
       link(Links.structure(file.name), `${file.name} · ${listing.places.length}`)));
     byId("graph").replaceChildren(...this.graph.drawing ? [button("Save graph as SVG", () => this.saveGraph())] : [], this.graph.element,
       html("ul", { className: "files" }, ...files), html("p", { textContent: hint }));

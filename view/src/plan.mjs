@@ -65,17 +65,18 @@ export class Plan {
       drawings would get much longer by it. */
   static leastRanks(structures, roles) {
     const small = structures.map(structure => folded(structure, roles).structure).filter(({ size }) => size <= 40);
-    let least = new Map(), natural = 0;
+    let least = new Map(), last = least, natural = 0;
     if (structures.length < 2) return least;
     for (let round = 0; round < ROUNDS; round++) {
       const ranks = new Map(), layouts = small.map(structure => new Layout(structure, roles, { least }));
       const highest = greatest(layouts.flatMap(layout => layout.ranks));
       if (round === 0) natural = highest;
-      if (highest > natural + MOST_LONGER) return new Map();
+      if (highest > natural + MOST_LONGER) return last;
       for (const layout of layouts) layout.keys.forEach((key, u) => {
         if (layout.pointers[key]?.kind === "pointer") ranks.set(key, Math.max(ranks.get(key) ?? 0, layout.ranks[u]));
       });
       if ([...ranks].every(([key, rank]) => least.get(key) === rank)) return least;
+      last = least;
       least = ranks;
     }
     return least;

@@ -27,8 +27,12 @@ const openDrop = async event => {
   event.preventDefault();
   document.body.classList.remove("over");
   const { dataTransfer } = event, text = dataTransfer.getData("text");
-  if (dataTransfer.files.length) await Page.open(await droppedFiles(dataTransfer));
-  else await openText("dropped text", text);
+  try {
+    if (dataTransfer.files.length) await Page.open(await droppedFiles(dataTransfer));
+    else await openText("dropped text", text);
+  } catch (fault) {
+    Page.say(`What was dropped can't be read (${fault.message}): take “Open files…” or “Open a folder…”.`, true);
+  }
 };
 
 /** What is kept from one visit to the next; some browsers keep nothing for files from disk. */
@@ -107,11 +111,8 @@ addEventListener("keydown", event => {
   event.preventDefault();
   act();
 });
-addEventListener("beforeprint", () => { // the first structures of the listing, whether in view or not
-  const { gallery } = Page;
-  for (let i = 0; i < Math.min(gallery.count, 200); i++) if (!gallery.cards.has(i)) gallery.add(i);
-});
-addEventListener("afterprint", () => Page.gallery.render());
+addEventListener("beforeprint", () => Page.gallery.hold(200));
+addEventListener("afterprint", () => Page.gallery.release());
 byId("theme").value = kept("colours") ?? "light dark";
 document.documentElement.style.colorScheme = byId("theme").value;
 openInner("given");

@@ -51,13 +51,22 @@ export class Structure {
 /** What all structures of a text say of the predicates in it. */
 export class Census {
   facts = new Map(); // by predicate: its arity, what may stand behind it, whether it may be a pointer, and reflexive
+  order = null; // of the predicates, as long as nothing new is noted
   fact(name, arity) {
-    if (!this.facts.has(name))
+    if (!this.facts.has(name)) {
       this.facts.set(name, { name, arity, behind: new Set(), isPointer: true, isReflexive: true });
+      this.order = null;
+    }
     return this.facts.get(name);
   }
   /** Notes that predicates are told in this order. */
-  follow(facts) { facts.forEach((fact, i) => facts[i + 1] && facts[i + 1] !== fact && fact.behind.add(facts[i + 1])); }
+  follow(facts) {
+    facts.slice(1).forEach((next, i) => {
+      if (next === facts[i] || facts[i].behind.has(next)) return;
+      facts[i].behind.add(next);
+      this.order = null;
+    });
+  }
   /** Notes the entries of one structure: each has a name, an arity, and the items that aren't 0; answers their facts. */
   note(entries, size, summaries) {
     return entries.map(entry => {
@@ -84,7 +93,8 @@ export class Census {
     return loops.length === size && loops.every(({ u, value }) => value === Kleene.YES || summaries.has(u));
   }
   /** The predicates in an order that each structure keeps: that of declaration, as far as it can be seen. */
-  get ordered() {
+  get ordered() { return this.order ??= this.sorted(); }
+  sorted() {
     const before = new Map(), facts = [...this.facts.values()];
     for (const { behind } of facts) for (const next of behind) before.set(next, (before.get(next) ?? 0) + 1);
     const order = facts.filter(fact => !before.has(fact));

@@ -11,7 +11,12 @@ const filesOf = files => {
   for (const { name, text } of files) transfer.items.add(new File([text], name));
   return transfer;
 };
-const settled = () => new Promise(resolve => setTimeout(resolve, 120));
+/** What was asked for is done, and drawn: where processors are shared with others a frame may take its time. */
+const settled = async () => {
+  await new Promise(resolve => setTimeout(resolve, 120));
+  const drawn = new Promise(resolve => requestAnimationFrame(() => requestAnimationFrame(resolve)));
+  await Promise.race([drawn, new Promise(resolve => setTimeout(resolve, 2000))]);
+};
 /** The share of dark points in a picture. */
 const darkness = async blob => {
   const bitmap = await createImageBitmap(blob), canvas = document.createElement("canvas");
@@ -21,6 +26,15 @@ const darkness = async blob => {
   let dark = 0;
   for (let i = 0; i < data.length; i += 4) if (data[i + 3] > 128 && data[i] + data[i + 1] + data[i + 2] < 300) dark++;
   return dark / (data.length / 4);
+};
+const onPaper = () => {
+  const boxes = selector => [...document.querySelectorAll(selector)].map(element => element.getBoundingClientRect()), cards = boxes(".card");
+  const meet = (a, b) => a.left < b.right && b.left < a.right && a.top < b.bottom && b.top < a.bottom;
+  const isCut = ({ scrollHeight, clientHeight, scrollWidth, clientWidth }) => scrollHeight > clientHeight + 1 || scrollWidth > clientWidth + 1;
+  return { columns: new Set(cards.map(({ left }) => Math.round(left))).size, cards: cards.length,
+    overlaps: cards.filter((box, i) => cards.slice(i + 1).some(other => meet(box, other))).length, cut: [...document.querySelectorAll(".card")].filter(isCut).length,
+    frames: boxes(".strip li").filter(({ right, height }) => right <= innerWidth && height > 0).length,
+    seen: ["#film", "#title", ".graph", "#messages", "header", "#text", ".card button", "#listing"].filter(selector => boxes(selector).some(({ height }) => height > 0)) };
 };
 const port = {
   /** Files by the page's own chooser. */
@@ -88,6 +102,11 @@ const port = {
     const { width, height } = document.querySelector(selector).getBoundingClientRect();
     return { width, height };
   },
+  /** Whether an element is seen whole in the one that scrolls it. */
+  isInView: (selector, scroller) => {
+    const [own, room] = [selector, scroller].map(name => document.querySelector(name).getBoundingClientRect());
+    return own.top >= room.top && own.bottom <= room.bottom && own.left >= room.left && own.right <= room.right;
+  },
   colour: (selector, name) => getComputedStyle(document.querySelector(selector)).getPropertyValue(name),
   select: async (selector, value) => {
     const element = document.querySelector(selector);
@@ -95,7 +114,31 @@ const port = {
     element.dispatchEvent(new Event("change"));
     await settled();
   },
-  theme: name => { document.documentElement.style.colorScheme = name; },
+  /** What the button with this text gives to be saved: a name, a type, and how it begins. */
+  saves: async text => {
+    const { createObjectURL } = URL, { click } = HTMLAnchorElement.prototype, saved = [];
+    URL.createObjectURL = blob => saved.push({ blob }) && createObjectURL.call(URL, blob);
+    HTMLAnchorElement.prototype.click = function () { saved.at(-1).name = this.download; };
+    [...document.querySelectorAll("button")].find(({ textContent }) => textContent === text).click();
+    for (let turn = 0; turn < 40 && !saved.at(-1)?.name; turn++) await settled();
+    Object.assign(URL, { createObjectURL });
+    Object.assign(HTMLAnchorElement.prototype, { click });
+    const { name, blob } = saved.at(-1), bytes = new Uint8Array(await blob.arrayBuffer());
+    return [name, blob.type, String.fromCharCode(...bytes.subarray(0, 200))];
+  },
+  /** How the page stands on paper: what is seen, and where the cards are. */
+  printed: async () => {
+    const rules = [...document.styleSheets].flatMap(({ cssRules }) => [...cssRules]).filter(({ media }) => media?.mediaText === "print");
+    const style = document.createElement("style");
+    style.textContent = rules.flatMap(({ cssRules }) => [...cssRules]).map(({ cssText }) => cssText).join("\n");
+    document.head.append(style);
+    dispatchEvent(new Event("beforeprint"));
+    await settled();
+    const sheet = onPaper();
+    style.remove();
+    dispatchEvent(new Event("afterprint"));
+    return sheet;
+  },
   /** How dark the picture of a report's first structure is. */
   darkness: async text => {
     const report = await Report.read(bytesOf(text));

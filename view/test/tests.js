@@ -102,21 +102,29 @@ const TESTS = {
     await call("paste", block("edge 0  examples"));
     const found = [await texts(".graph a.node > text"), await call("count", ".graph path.edge")];
     await call("forget");
+    await call("drop", [...example("null_dereference"), file("edges", block("edge 0  examples"))]);
+    found.push((await texts("#messages li"))[0].includes("examples/null_dereference/program.tvp:10"), await texts("#notice"));
+    await call("drop", [file("edges", block("edge 0  examples").replace("program.tvp:10", "program.tvp:11"))]);
+    found.push(await texts("#notice"));
+    await call("forget");
     await call("drop", [...example("silent_loss"), file("losses", block("node L2 lists nothing"))]);
     found.push((await texts("#messages h2"))[1], (await texts("#messages li")).length, await call("count", ".graph path.warned"), (await texts("#notice"))[0]);
     await call("forget");
     await call("paste", "nothing is lost\n");
     await call("paste", "node L0 structures 0\nnode L1 structures 2\n0  (x&t?)-n->(#1)  (#1)-n?->((t))  ((t))  b?\n1\n");
     found.push((await texts("#messages p"))[0], await texts(".card > p"));
-    return [found, [["L1 · empty", "L2 · empty", "L3 · empty", "L4 · empty"], 4, "Losses: 4", 4, 1, "",
+    return [found, [["L1 · empty", "L2 · empty", "L3 · empty", "L4 · empty"], 4, true, [""],
+      ["program.tvp isn't taken, since it doesn't fit: edge 1 stands in line 11, and in line 10 of the program."], "Losses: 4", 4, 1, "",
       "Nothing is lost.", ["(x&t?)-n->(#1)  (#1)-n?->((t))  ((t))  b?", "no individuals"]]];
   },
   "a replay is drawn at the structures of the report": async () => {
     await call("forget");
     await call("drop", [...example("list_reverse"), ...example("replayed_runs")]);
     for (let i = 0; i < 3; i++) await call("press", "ArrowRight", "#film");
-    return [[(await texts("#film h2"))[0], await texts("#film li[aria-current] .name"), await texts(".files a")],
-      ["Step 3 of 22: state 3 at L4: 3 cells", ["0", "1", "2"], ["initial.tvs · 1", "reverse.tvs · 1"]]];
+    const found = [(await texts("#film h2"))[0], await texts("#film li[aria-current] .name"), await texts(".files a")];
+    await call("click", ".files a", 1);
+    return [[...found, await texts("#title"), await call("count", ".card .cell")],
+      ["Step 3 of 22: state 3 at L4: 3 cells", ["0", "1", "2"], ["initial.tvs · 1", "reverse.tvs · 1"], ["One structure at reverse.tvs"], 3]];
   },
   "by maps: why a message may be true, as a film; where a structure comes from, and what comes of it": async () => {
     await call("forget");
@@ -124,7 +132,7 @@ const TESTS = {
     await call("click", "#messages button");
     const found = [await texts("#film h2"), await call("count", "#film .strip svg"), await call("count", "#film .coloured") > 10, await call("count", ".graph .lit")];
     for (let i = 0; i < 3; i++) await call("press", "ArrowRight", "#film");
-    found.push(await texts(".graph .lit .caption"), await texts("#film .told"));
+    found.push(await texts(".graph .lit .caption"), await texts("#film .told"), await call("count", "#film .marked") > 3);
     for (let i = 0; i < 9; i++) await call("press", "ArrowRight", "#film");
     found.push(await texts("#film .told"), await texts("#film li[aria-current] > a"));
     await call("address", "#L4/0");
@@ -133,8 +141,11 @@ const TESTS = {
     await call("click", ".card button", 0);
     found.push((await texts("#large .neighbours li"))[0].slice(0, 9));
     await call("click", "#large button:last-of-type");
-    return [found, [["Step 0 of 6: initial 0 belongs to L1/0"], 7, true, 0, ["uninterpreted"], [""],
-      ["“null dereference of y” is true of this structure"], [], "Step 0 of", "L3/0 by e"]];
+    await call("press", "ArrowRight", "#film");
+    await call("click", "#film > button", 2);
+    found.push(await call("count", "#text .lit, .graph .lit"));
+    return [found, [["Step 0 of 6: initial 0 belongs to L1/0"], 7, true, 0, ["uninterpreted"], [""], true,
+      ["“null dereference of y” is true of this structure"], [], "Step 0 of", "L3/0 by e", 0]];
   },
   "the program's text: lines, nodes and structures lead to one another, messages stand in its margin": async () => {
     await call("forget");
@@ -164,6 +175,19 @@ const TESTS = {
     return [[...found, await texts("#sheet .empty")], [["L2: 1 in the first report alone, 0 in the second alone, 8 in both"], ["L2/0Large"], 1,
       "Compared: report and cut", "report alone: message 1 0 1 “null dereference of y”cut alone: no message", true,
       ["Both reports have the same structures here."]]];
+  },
+  "the node at hand is scrolled into view, and films alone have the page to themselves": async () => {
+    await call("forget");
+    await call("drop", example("queue"));
+    const found = [];
+    for (const hash of ["#T5/0", "#L1/0", "#T6/0"]) {
+      await call("address", hash);
+      found.push(await call("isInView", ".graph a[aria-current] rect", "#graph"));
+    }
+    await call("forget");
+    await call("paste", block("stage structure 0"));
+    for (const selector of ["#side", "#title", "#listing"]) found.push((await call("size", selector)).height);
+    return [found, [true, true, true, 0, 0, 0]];
   },
   "keys: on and back in the listing, large, the next one there, search, help": async () => {
     await call("forget");
@@ -224,13 +248,62 @@ const TESTS = {
     await load("index.html");
     return [found, [["L1 · 1", "L2 · 9", "L3 · 8", "L4 · 8"], ["examples/null_dereference/program.tvp"], [""], "Messages: 1"]];
   },
-  "the stages of a step are a film, with keys for back and forth": async () => {
+  "the stages of the tutorial's step are a film with colours, with keys for back and forth": async () => {
     await call("forget");
-    await call("paste", `stage structure 0  (#0)-n?->((#1))  ((#1&x?))-n?->((#1))\nstage   coerced  (#0)-n?->((#1))  ((#1&x?))-n?->((#1))\nstage   focus 0 atom 0\nstage     at hand 0  (#0)-n?->((#1))  ((#1&x?))-n?->((#1))\nstage       choice 0  (#0)-n?->((#1))  ((#1))-n?->((#1))\nstage         dropped by rule 3\nstage       choice 1  (#0)-n?->(x)  (x)-n?->(x)\nstage         coerced  (#0)-n->(x)  (x)\nstage   update of 0  (#0)-n->(x)  (x)\nstage     precondition is 1 for #1\nstage       given 0  (x)-n->(#1)  (#1)\nstage         coerced  (x)-n->(#1)  (#1)\nstage         blurred  (x)-n->(#1)  (#1)\nstage     precondition is 0 for #0\nstage   result 0  (x)-n->(#1)  (#1)\n`);
-    const found = [await texts("#film h2"), await call("count", "#film .strip svg"), await call("count", "#film li.dropped")];
+    await call("paste", block("stage structure 0"));
+    const found = [await texts("#film h2"), await call("count", "#film .strip svg"), await texts("#film li.dropped .note"), await call("count", "#film .coloured")];
     for (const key of ["ArrowRight", "ArrowRight", "ArrowLeft"]) await call("press", key, "#film");
-    return [[...found, await texts("#film h2"), await texts("#film .told"), await texts("#notice")],
-      [["Step 0 of 7: structure 0"], 8, 1, ["Step 1 of 7: focus 0 atom 0: at hand 0, choice 0"], ["dropped by rule 3"], [""]]];
+    found.push(await texts("#film h2"), await texts("#film .told"));
+    for (let i = 0; i < 3; i++) await call("press", "ArrowRight", "#film");
+    return [[...found, await texts("#film .told"), await call("count", "#film li[aria-current] .arrow.marked"), await texts("#notice")],
+      [["Step 0 of 13: structure 0"], 14, ["dropped by the declaration of r[x]"], 34, ["Step 1 of 13: focus 0 atom 1: at hand 0, choice 0"],
+        ["dropped by the declaration of r[x]; n from i0 to i1 was 1/2 and is 0"],
+        ["n from i0 to i1 was 1/2 and is 0; n from i0 to i2 was 1/2 and is 1; i2 is a part of what was i1"], 1, [""]]];
+  },
+  "of a file with two structures there are two films, and what doesn't fit is drawn by itself": async () => {
+    await call("forget");
+    const stages = number => `stage structure ${number}  (x)\nstage   coerced  (x)\nstage   update of 0  (x)\nstage     precondition is 0\n`;
+    await call("paste", stages(0) + stages(1));
+    const found = [await texts("#film option"), await texts("#film h2"), await texts("#film .note")];
+    await call("forget");
+    await call("drop", [file("report", "tvla report 2 node L structures 1 %n = {u} %p = { x = {u->u} } end"), file("step", stages(0)), file("p.tvs", "%n = {u} %p = { x = {u} }")]);
+    return [[...found, await texts("#notice"), await texts("#film li[aria-current] .pointer"), await texts(".files a")],
+      [["Step of structure 0", "Step of structure 1"], ["Step 0 of 1: structure 0"], ["coerce changes nothing", "precondition is 0"],
+        ["p.tvs isn't shown, since it doesn't fit: x has 1 argument here, and 2 arguments in what is shown.\n"
+          + "What tvla-explain wrote isn't shown with the rest, since it doesn't fit: x has 1 argument here, and 2 arguments in what is shown."], ["x"], []]];
+  },
+  "a structure is saved as SVG, PNG, DOT and TikZ; all that are listed, and the graph, as SVG": async () => {
+    await call("forget");
+    await call("drop", example("null_dereference"));
+    const found = [await call("saves", "Save graph as SVG")];
+    await call("address", "#L2/0");
+    found.push(await call("saves", "Save all as SVG"));
+    await call("click", ".card button", 0);
+    for (const text of ["SVG", "PNG", "DOT", "TikZ"]) found.push(await call("saves", text));
+    await call("click", "#large button:last-of-type");
+    const begins = ["<?xml", "<?xml", "<?xml", "\x89PNG", "digraph \"L2/0\"", "% L2/0; in the preamble: \\usepackage{tikz}"];
+    return [found.map(([name, type, text], i) => [name, type, text.startsWith(begins[i]) || text]),
+      [["graph.svg", "image/svg+xml", true], ["9-structures-at-L2.svg", "image/svg+xml", true], ["L2-0.svg", "image/svg+xml", true],
+        ["L2-0.png", "image/png", true], ["L2-0.dot", "text/plain", true], ["L2-0.tex", "text/plain", true]]];
+  },
+  "on paper: two columns with the node's name, the graph and messages, nothing cut off; and all frames of a film": async () => {
+    await call("forget");
+    await call("drop", example("null_dereference"));
+    await call("address", "#L2/0");
+    const found = [await texts("#title"), await call("printed")];
+    await call("forget");
+    await call("paste", block("stage structure 0"));
+    return [[...found, await call("printed")], [["9 structures at L2"],
+      { columns: 2, cards: 9, overlaps: 0, cut: 0, frames: 0, seen: ["#title", ".graph", "#messages", "#listing"] },
+      { columns: 0, cards: 0, overlaps: 0, cut: 0, frames: 14, seen: ["#film"] }]];
+  },
+  "a source program's text leads to its structures, and they to it": async () => {
+    await call("forget");
+    await call("drop", example("source_null_dereference"));
+    const found = [await texts("#text h2"), await texts("#text .margin"), await texts("#notice")];
+    await call("click", "#text .line a", 1);
+    found.push((await texts("#title"))[0].replace(/.* at /, ""), (await texts("#text .now")).length, (await texts("#text .lit")).length);
+    return [found, [["program.src"], ["⚠ null dereference of y"], [""], "S1", 1, 1]];
   },
   "2,000 edges are a table with neighbours, 16,384 are shown in under two seconds": async () => {
     await call("forget");

@@ -33,7 +33,8 @@ pub record IsFinishedText (p : ProgramForm) (mode : Mode) (initial : List Struct
   pub analysis : IsAnalysis p mode initial max listing lines
   pub written : text ≡ finished_text p.nodes listing
 
--- more than `max` structures are reached, and one more than `max` of these, each once, are counted
+-- more than `max` structures are reached, and one more than `max` of these are counted, each once and reached
+-- through counted ones alone
 pub record IsStoppedText (p : ProgramForm) (mode : Mode) (initial : List StructureForm) (max : ℕ)
     (text : List ℕ) : Type 0 where
   pub listing : List (List StructureForm)

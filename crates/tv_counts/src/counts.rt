@@ -61,8 +61,8 @@ fn stopped_text(
 }
 
 /// How many structures are reached at each node: `finished`, and behind it a line for each node, by number,
-/// `node NAME structures COUNT`. Where more than `max` are reached in all, `more than MAX structures`, and in
-/// the nodes' lines how many of the first that were met, one more than `max`, stand there.
+/// `node NAME structures COUNT`. Where more than `max` are reached in all, `more than MAX structures`, and
+/// the nodes' lines count one more than `max` of these, each of which is reached through counted ones alone.
 ///
 /// # Errors
 /// `Splits` and `Individuals` only where the step of a reached structure meets that budget; never

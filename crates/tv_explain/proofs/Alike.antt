@@ -12,11 +12,13 @@ use Rattle.tv_status.specs.declared.status.Role.TheVariants as role
 use Rattle.tv_structure_form.specs.StructureForm.{StructureForm}
 use Rattle.tv_texts.specs.Agreement.{GiveOne, SameProgram, placeless}
 use Rattle.tv_texts.specs.Files.{IsInitialFile, IsProgramFile, IsReportFile, IsSourceFile}
+use Rattle.tv_explain.specs.Due.{AreReadTogether}
 use Rattle.tv_explain.specs.Meaning.{FilesMean, IsDrawnFile, IsNoAnalysis, IsRefused, drawn_form}
 use Rattle.tv_explain.specs.declared.inputs.Drawn.{Drawn}
 use Rattle.tv_explain.specs.declared.inputs.Inputs.{Inputs}
 use Rattle.tv_explain_words.specs.Words.{AnalyzedForm, CommandForm, Shows, ListsEdges, TellsMessage}
-use Rattle.tv_explain_words.specs.Words.{TellsStructure, TellsLosses, Compiles}
+use Rattle.tv_explain_words.specs.Words.{TellsStructure, TellsLosses, Compiles, TakesStep, TellsPlan}
+use Rattle.tv_explain_words.specs.Words.{TellsCounts, Completes}
 
 -- both say the same program, wherever its parts lie in memory, and the same initial structures
 pub record SameInputs (a b : Inputs) : Type 0 where
@@ -49,6 +51,10 @@ AreRead told (TellsMessage of edge number) = (inputs : Inputs) × FilesMean told
 AreRead told (TellsStructure of node index) = (inputs : Inputs) × FilesMean told of inputs
 AreRead told (TellsLosses of) = (inputs : Inputs) × FilesMean told of inputs
 AreRead told (Compiles source) = (p : Program) × IsSourceFile told source (Ok p)
+AreRead told (TakesStep of edge) = (inputs : Inputs) × FilesMean told of inputs
+AreRead told (TellsPlan program mode delta) = (p : Program) × IsProgramFile told program (Ok p)
+AreRead told (TellsCounts of) = (inputs : Inputs) × FilesMean told of inputs
+AreRead told (Completes program structures) = AreReadTogether told program structures
 
 module _ (told : Option Held) where
   -- the program that was read, and what is taken of it
@@ -111,6 +117,17 @@ module _ (told : Option Held)
     not_refused (TellsLosses of) r k h refused = analysis_read of r k h.0 h.1 refused
     not_refused (Compiles source) role.Source k h refused = sources source (Ok h.0) (Err k) h.1 refused
     not_refused (Compiles source) other k h refused = refused
+    not_refused (TakesStep of edge) r k h refused = analysis_read of r k h.0 h.1 refused
+    not_refused (TellsPlan program mode delta) role.Program k h refused =
+        programs program (Ok h.0) (Err k) h.1 refused
+    not_refused (TellsPlan program mode delta) other k h refused = refused
+    not_refused (TellsCounts of) r k h refused = analysis_read of r k h.0 h.1 refused
+    not_refused (Completes program structures) role.Program k h refused =
+        programs program (Ok h.0) (Err k) h.1 refused
+    not_refused (Completes program structures) role.Initial k h refused =
+        let same : SameProgram h.0 refused.0 = programs program (Ok h.0) (Ok refused.0) h.1 refused.1 in
+        initials structures h.0 refused.0 same (Ok h.2.0) (Err k) h.2.1 refused.2
+    not_refused (Completes program structures) other k h refused = refused
 
     one_analysis_refusal : (of : AnalyzedForm) (r s : Role) (k l : FileKind) → IsNoAnalysis told of r k
         → IsNoAnalysis told of s l → (r ≡ s) × (placeless k ≡ placeless l)
@@ -153,3 +170,21 @@ module _ (told : Option Held)
         (refl, sources source (Err k) (Err l) h j)
     one_refusal (Compiles source) role.Source other k l h j = absurd j
     one_refusal (Compiles source) other s k l h j = absurd h
+    one_refusal (TakesStep of edge) r s k l h j = one_analysis_refusal of r s k l h j
+    one_refusal (TellsPlan program mode delta) role.Program role.Program k l h j =
+        (refl, programs program (Err k) (Err l) h j)
+    one_refusal (TellsPlan program mode delta) role.Program other k l h j = absurd j
+    one_refusal (TellsPlan program mode delta) other s k l h j = absurd h
+    one_refusal (TellsCounts of) r s k l h j = one_analysis_refusal of r s k l h j
+    one_refusal (Completes program structures) role.Program role.Program k l h j =
+        (refl, programs program (Err k) (Err l) h j)
+    one_refusal (Completes program structures) role.Program role.Initial k l h j =
+        absurd (programs program (Err k) (Ok j.0) h j.1)
+    one_refusal (Completes program structures) role.Initial role.Program k l h j =
+        absurd (programs program (Ok h.0) (Err l) h.1 j)
+    one_refusal (Completes program structures) role.Initial role.Initial k l h j =
+        let same : SameProgram h.0 j.0 = programs program (Ok h.0) (Ok j.0) h.1 j.1 in
+        (refl, initials structures h.0 j.0 same (Err k) (Err l) h.2 j.2)
+    one_refusal (Completes program structures) role.Program other k l h j = absurd j
+    one_refusal (Completes program structures) role.Initial other k l h j = absurd j
+    one_refusal (Completes program structures) other s k l h j = absurd h

@@ -20,16 +20,26 @@ use Rattle.tv_texts.specs.Files.{IsSourceFile, UnlessNotRead}
 use Rattle.tv_texts.specs.Meaning.{MeansProgram}
 use Rattle.tv_texts.specs.declared.fault.TextFault.{TextFault}
 use Rattle.tv_texts.specs.declared.fault.TextFault.TheVariants as text
-use Rattle.tv_work.specs.Analyzed.{IsWorkCause}
-use Rattle.tv_work.specs.declared.error.WorkError.{WorkError}
-use Rattle.tv_work.specs.declared.error.WorkError.TheVariants as work
-use Rattle.tv_explain.specs.Answers.{FilesMeanSuch, IsAnswer, IsCompiledText, IsStopped, Reached}
+use Rattle.std.proofs.Common.{Some}
+use Rattle.std.proofs.lemmas.Option.{get_or_from_slice_get, slice_get_within}
+use Rattle.std.specs.Prelude.{slice_get}
+use Rattle.tv_complete_text.specs.Text.{IsCauseOfNone}
+use Rattle.tv_complete_text.specs.declared.error.CompletionError.{CompletionError}
+use Rattle.tv_complete_text.specs.declared.error.CompletionError.TheVariants as completion
+use Rattle.tv_model.specs.Program.{ProgramForm}
+use Rattle.tv_step_laws.specs.Budgets.{IsStepCause}
+use Rattle.tv_struct.specs.declared.analysis.StageError.{StageError}
+use Rattle.tv_struct.specs.declared.analysis.StageError.TheVariants as stage
+use Rattle.tv_structure_form.specs.StructureForm.{StructureForm}
+use Rattle.tv_texts.specs.Structures.{IsStructuresText}
+use Rattle.tv_texts.specs.declared.structures.StructuresText.{StructuresText}
+use Rattle.tv_explain.specs.Answers.{FilesMeanSuch, IsAnswer, IsCompiledText, IsStopped}
 use Rattle.tv_explain.specs.Answers.{compiled_lines}
 use Rattle.tv_explain.specs.Call.{IsAnswerTo, IsCause, IsCommandCause, IsFound, UnlessReadFault}
-use Rattle.tv_explain.specs.Faults.{fault_of_text, fault_of_work, fault_of_writing}
+use Rattle.tv_explain.specs.Faults.{fault_of_completion, fault_of_step, fault_of_text, fault_of_writing}
 use Rattle.tv_explain.specs.Meaning.{FilesMean, IsDrawnFile, IsMissing, IsRefused, LacksInputs, drawn_form}
 use Rattle.tv_explain.specs.Meaning.{program_name}
-use Rattle.tv_explain.specs.Work.{IsInputsCause, plain}
+use Rattle.tv_explain.specs.Work.{IsInputsCause, IsStepsStop, plain}
 use Rattle.tv_explain.specs.declared.fault.Answer.{Answer}
 use Rattle.tv_explain.specs.declared.fault.Fault.{Fault}
 use Rattle.tv_explain.specs.declared.fault.Fault.TheVariants.{Usage, FileFault, Structures, TooManySplits}
@@ -38,7 +48,7 @@ use Rattle.tv_explain.specs.declared.fault.Fault.TheVariants.{ReadFault, Memory}
 use Rattle.tv_explain.specs.declared.inputs.Drawn.{Drawn}
 use Rattle.tv_explain.specs.declared.inputs.Inputs.{Inputs}
 use Rattle.tv_explain_words.specs.Words.{AnalyzedForm, CommandForm, Shows, TellsLosses, TellsMessage}
-use Rattle.tv_explain_words.specs.Words.{Compiles, TellsStructure, Spells}
+use Rattle.tv_explain_words.specs.Words.{Compiles, TellsStructure, TakesStep, TellsCounts, Completes, Spells}
 
 -- ---- counts and steadiness
 
@@ -110,8 +120,34 @@ module _ (told : Option Held) where
   report_fault program report p rose steady late_rose late_steady text.NotRead means earlier stays h =
       (earlier h.0, λ s. inr (p, means, h.1 (stays s)))
   report_fault program report p rose steady late_rose late_steady text.Memory means earlier stays h = tt
-      -- PROGRAM of an analysis isn't had
 
+  -- STRUCTURES isn't had
+  pub structures_fault : (program structures : List ℕ) (p : Program)
+      (rose steady late_rose late_steady : Type 0) (e : TextFault) → IsProgramFile told program (Ok p)
+      → (late_rose → rose) → (steady → late_steady)
+      → IsFileCause role.Initial (λ k. IsInitialFile told structures p (Err k)) (¬ HoldsName told structures)
+      late_rose late_steady e
+      → IsCommandCause told (Completes program structures) rose steady (fault_of_text e)
+  structures_fault program structures p rose steady late_rose late_steady (text.Refused its k) means earlier
+      stays h =
+      subst (λ r. IsRefused told (Completes program structures) r k) (sym h.0) (p, means, h.1)
+  structures_fault program structures p rose steady late_rose late_steady text.NotRead means earlier stays h =
+      (earlier h.0, λ s. inr (p, means, h.1 (stays s)))
+  structures_fault program structures p rose steady late_rose late_steady text.Memory means earlier stays h = tt
+
+  -- the completed file isn't written
+  pub completion_fault : (program structures : List ℕ) (p : Program) (read : StructuresText)
+      (rose steady : Type 0) (e : CompletionError) → IsProgramFile told program (Ok p)
+      → IsStructuresText told structures p read
+      → IsCauseOfNone p read.bytes.items read.tokens.list.items read.structures e
+      → IsCommandCause told (Completes program structures) rose steady (fault_of_completion e)
+  completion_fault program structures p read rose steady completion.TooLong means its h =
+      (p, means, (read, its, h))
+  completion_fault program structures p read rose steady completion.Differs means its h =
+      (p, means, (read, its, h))
+  completion_fault program structures p read rose steady completion.Memory means its h = tt
+
+  -- PROGRAM of an analysis isn't had
   pub taken_fault : (of : AnalyzedForm) (rose steady : Type 0) (e : TextFault)
       → IsFileCause role.Program (λ k. IsProgramFile told of.program (Err k)) (LacksFile told of.program) rose
       steady e → IsInputsCause told of rose steady (fault_of_text e)
@@ -158,23 +194,8 @@ module _ (told : Option Held) where
   inputs_cause command of rose steady (NotThere what) program initial lacks h = absurd h
   inputs_cause command of rose steady (NotWritten why) program initial lacks h = absurd h
 
-  pub message_unread : (of : AnalyzedForm) (edge number : ℕ) (rose steady : Type 0) (f : Fault)
-      → IsInputsCause told of rose steady f → IsCommandCause told (TellsMessage of edge number) rose steady f
-  message_unread of edge number rose steady f h =
-      inputs_cause (TellsMessage of edge number) of rose steady f (λ k r. r) (λ k r. r) (λ l. l) h
-
-  pub structure_unread : (of : AnalyzedForm) (node : List ℕ) (index : ℕ) (rose steady : Type 0) (f : Fault)
-      → IsInputsCause told of rose steady f → IsCommandCause told (TellsStructure of node index) rose steady f
-  structure_unread of node index rose steady f h =
-      inputs_cause (TellsStructure of node index) of rose steady f (λ k r. r) (λ k r. r) (λ l. l) h
-
-  pub losses_unread : (of : AnalyzedForm) (rose steady : Type 0) (f : Fault)
-      → IsInputsCause told of rose steady f → IsCommandCause told (TellsLosses of) rose steady f
-  losses_unread of rose steady f h =
-      inputs_cause (TellsLosses of) of rose steady f (λ k r. r) (λ k r. r) (λ l. l) h
-
   -- what stops the work behind the files stops the command
-  stopped_cause : (command : CommandForm) (of : AnalyzedForm) (inputs : Inputs) (rose steady : Type 0)
+  pub stopped_cause : (command : CommandForm) (of : AnalyzedForm) (inputs : Inputs) (rose steady : Type 0)
       (f : Fault)
       → ((P : AnalyzedForm → Inputs → Type 0) → P of inputs → FilesMeanSuch told command P)
       → IsStopped command of inputs f → IsCommandCause told command rose steady f
@@ -191,25 +212,6 @@ module _ (told : Option Held) where
   stopped_cause command of inputs rose steady (NotWritten why) mean h = absurd h
   stopped_cause command of inputs rose steady ReadFault mean h = absurd h
   stopped_cause command of inputs rose steady Memory mean h = tt
-
-  pub message_stopped : (of : AnalyzedForm) (edge number : ℕ) (inputs : Inputs) (rose steady : Type 0)
-      (f : Fault) → FilesMean told of inputs → IsStopped (TellsMessage of edge number) of inputs f
-      → IsCommandCause told (TellsMessage of edge number) rose steady f
-  message_stopped of edge number inputs rose steady f means h =
-      stopped_cause (TellsMessage of edge number) of inputs rose steady f (λ P is. (inputs, means, is)) h
-
-  pub structure_stopped : (of : AnalyzedForm) (node : List ℕ) (index : ℕ) (inputs : Inputs)
-      (rose steady : Type 0) (f : Fault) → FilesMean told of inputs
-      → IsStopped (TellsStructure of node index) of inputs f
-      → IsCommandCause told (TellsStructure of node index) rose steady f
-  structure_stopped of node index inputs rose steady f means h =
-      stopped_cause (TellsStructure of node index) of inputs rose steady f (λ P is. (inputs, means, is)) h
-
-  pub losses_stopped : (of : AnalyzedForm) (inputs : Inputs) (rose steady : Type 0) (f : Fault)
-      → FilesMean told of inputs → IsStopped (TellsLosses of) of inputs f
-      → IsCommandCause told (TellsLosses of) rose steady f
-  losses_stopped of inputs rose steady f means h =
-      stopped_cause (TellsLosses of) of inputs rose steady f (λ P is. (inputs, means, is)) h
 
   -- ---- words
 
@@ -252,14 +254,28 @@ written_text law source text is means size = record {
       (subst (λ t. MeansProgram t (Ok source.program)) is means));
 }
 
--- why a search finds nothing
-pub work_stopped : (command : CommandForm) (of : AnalyzedForm) (inputs : Inputs) (e : WorkError)
-    → IsWorkCause (drawn_form inputs) of.max (Reached of inputs) e
-    → IsStopped command of inputs (fault_of_work of.max e)
-work_stopped command of inputs work.Structures h = (refl, h)
-work_stopped command of inputs work.Splits h = h
-work_stopped command of inputs work.Individuals h = h
-work_stopped command of inputs work.Memory h = tt
+-- the step of one of the structures has no answer
+pub one_stopped : (p : ProgramForm) (edge : ℕ) (ss : List StructureForm) (number : ℕ) (s : StructureForm)
+    (e : StageError) → slice_get ss number ≡ Some s → IsStepCause p edge s e
+    → IsStepsStop p edge ss (fault_of_step e)
+one_stopped p edge ss number s stage.Splits at h =
+    (number, s, slice_get_within ss number s at, get_or_from_slice_get ss number s s at, h)
+one_stopped p edge ss number s stage.Individuals at h =
+    (number, s, slice_get_within ss number s at, get_or_from_slice_get ss number s s at, h)
+one_stopped p edge ss number s stage.Memory at h = tt
+
+-- so nothing is told of them
+pub steps_stopped : (asked of : AnalyzedForm) (edge : ℕ) (inputs : Inputs) (f : Fault)
+    → IsStepsStop (drawn_form inputs) edge inputs.initial f → IsStopped (TakesStep asked edge) of inputs f
+steps_stopped asked of edge inputs TooManySplits h = h
+steps_stopped asked of edge inputs TooManyIndividuals h = h
+steps_stopped asked of edge inputs Memory h = tt
+steps_stopped asked of edge inputs Usage h = absurd h
+steps_stopped asked of edge inputs (FileFault r k) h = absurd h
+steps_stopped asked of edge inputs (Structures max) h = absurd h
+steps_stopped asked of edge inputs (NotThere what) h = absurd h
+steps_stopped asked of edge inputs (NotWritten why) h = absurd h
+steps_stopped asked of edge inputs ReadFault h = absurd h
 
 -- ---- texts alone
 

@@ -5,8 +5,10 @@ use Rattle.std.proofs.Common.{Ok, Err}
 use Rattle.std.proofs.Common.{inl, inr}
 use Rattle.std.proofs.Common.{refl, sym, ap, subst, ◌∙◌, arith, ⊎_elim}
 use Rattle.std.proofs.lemmas.Option.{same_Some, slice_get_past, slice_get_within}
-use Rattle.std.specs.Prelude.{Contains, IsSome, IsTrue, length, slice_get}
+use Rattle.std.proofs.lemmas.List.Elements.{All-contains}
+use Rattle.std.specs.Prelude.{All, Contains, IsSome, IsTrue, length, slice_get}
 use Rattle.tv_compiled.specs.Compiled.{written}
+use Rattle.tv_complete_text.specs.Text.{ReadsAsStructures}
 use Rattle.tv_front.specs.Meaning.{Means}
 use Rattle.tv_lemmas.proofs.Options.{same_Ok}
 use Rattle.tv_lex.specs.Gather.{longest_gathered}
@@ -24,25 +26,29 @@ use Rattle.tv_outside.specs.Told.{Held}
 use Rattle.tv_status.specs.declared.status.FileKind.{FileKind}
 use Rattle.tv_status.specs.declared.status.Role.{Role}
 use Rattle.tv_status.specs.declared.status.Status.TheVariants as status
-use Rattle.tv_step_laws.specs.Budgets.{MeetsIndividuals, MeetsSplits}
+use Rattle.tv_step_laws.specs.Budgets.{KeepsBudgets, MeetsIndividuals, MeetsSplits}
 use Rattle.tv_structure_form.specs.StructureForm.{StructureForm}
 use Rattle.tv_texts.specs.Agreement.{GiveOne, SameProgram}
 use Rattle.tv_texts.proofs.OneFile.{one_file, one_held}
 use Rattle.tv_texts.specs.Files.{IsInitialFile, IsProgramFile, IsReportFile, IsSourceFile}
 use Rattle.tv_texts.specs.Meaning.{MeansInitial, MeansProgram, MeansReport, MeansSource}
 use Rattle.tv_trail.specs.Reasons.{ListsAt}
-use Rattle.tv_work.specs.Analyzed.{Meets}
-use Rattle.tv_work.specs.Reach.{AreMoreThan}
+use Rattle.tv_work.specs.Analyzed.{KeepAllBudgets, Meets}
+use Rattle.tv_work.specs.Reach.{AreMoreThan, IsReached}
 use Rattle.tv_explain.proofs.Alike.{AreRead, SameInputs, moved, not_refused, one_inputs, one_refusal, read_of}
-use Rattle.tv_explain.specs.Answers.{FilesMeanSuch, HasNoText, IsAnswer, IsCompiledText, IsStopped}
-use Rattle.tv_explain.specs.Answers.{IsUnwritten, NamesNothing, Reached, compiled_lines}
+use Rattle.tv_explain.specs.Answers.{FilesMeanSuch, HasNoCompletion, HasNoText, IsAnswer, IsCompiledText}
+use Rattle.tv_explain.specs.Answers.{IsStopped, IsUnwritten, MeetsItsBudget, NamesNothing, PassesMost}
+use Rattle.tv_explain.specs.Answers.{Reached}
+use Rattle.tv_explain.specs.Answers.{IsCompletionOf, ReadsSuch, compiled_lines}
 use Rattle.tv_explain.specs.Call.{Commands, IsEnded, IsFound}
 use Rattle.tv_explain.specs.Delivery.{IsDelivered, ending_for}
 use Rattle.tv_explain.specs.Due.{Owes, CallsWithinLimits, CanAnswer, CanBeWritten, CommandOwes}
 use Rattle.tv_explain.specs.Due.{EndsAsOwed}
 use Rattle.tv_explain.specs.Due.{HasMessage, IsAbsent, MayStand, AtLimit, IsWithinLimits, KeepsLimits}
-use Rattle.tv_explain.specs.Due.{LacksMessage}
-use Rattle.tv_explain.specs.Due.{LacksStructure, ListsSuch, LosesSome, LosesSuch, without_place}
+use Rattle.tv_explain.specs.Due.{AreReadTogether, CanBeCompleted, CannotBeCompleted, CannotWrite, KeepsEach}
+use Rattle.tv_explain.specs.Due.{KeepsItsLimits}
+use Rattle.tv_explain.specs.Due.{KeepsReached, LacksEdge, LacksMessage}
+use Rattle.tv_explain.specs.Due.{LacksStructure, ListsSuch, LosesSome, LosesSuch, without_details}
 use Rattle.tv_explain.specs.Faults.{ending_with}
 use Rattle.tv_explain.specs.Meaning.{FilesMean, IsRefused, drawn_form}
 use Rattle.tv_explain.specs.declared.fault.Answer.{Answer}
@@ -56,10 +62,13 @@ use Rattle.tv_explain.specs.declared.fault.Unwritten.{Unwritten}
 use Rattle.tv_explain.specs.declared.fault.Unwritten.TheVariants as unwritten
 use Rattle.tv_explain.specs.declared.inputs.Inputs.{Inputs}
 use Rattle.tv_texts.specs.Sources.{IsSourceText}
+use Rattle.tv_texts.specs.Structures.{IsStructuresText}
 use Rattle.tv_texts.specs.declared.source.SourceText.{SourceText}
+use Rattle.tv_texts.specs.declared.structures.StructuresText.{StructuresText}
 use Rattle.tv_explain_text.specs.Texts.{action_messages, messages_at}
 use Rattle.tv_explain_words.specs.Words.{AnalyzedForm, CommandForm, Shows, ListsEdges, TellsMessage}
-use Rattle.tv_explain_words.specs.Words.{TellsStructure, TellsLosses, Compiles, Spells, SpellsNothing}
+use Rattle.tv_explain_words.specs.Words.{TellsStructure, TellsLosses, Compiles, TakesStep, TellsPlan}
+use Rattle.tv_explain_words.specs.Words.{TellsCounts, Completes, Spells, SpellsNothing}
 
 -- ---- views of endings
 
@@ -69,7 +78,7 @@ DueView told command due = ((due ≡ As status.Done) × CanAnswer told command)
     ⊎ (((due ≡ Lost) × LosesSome told command)
     ⊎ (((r : Role) × (k : FileKind) × (due ≡ As (status.FileFault r k)) × IsRefused told command r k)
     ⊎ (((what : Sought) × (due ≡ Absent what) × IsAbsent told command what)
-    ⊎ ((why : Unwritten) × (due ≡ Unwritable why) × IsUnwritten told command why))))
+    ⊎ ((why : Unwritten) × (due ≡ Unwritable why) × CannotWrite told command why))))
 
 due_view : (told : Option Held) (command : CommandForm) (due : Ending) → CommandOwes told command due
     → DueView told command due
@@ -80,14 +89,13 @@ due_view told command Lost h = inr (inl (refl, h))
 due_view told command (Absent what) h = inr (inr (inr (inl (what, refl, h))))
 due_view told command (Unwritable why) h = inr (inr (inr (inr (why, refl, h))))
 
--- a limit of the analysis is passed
-abbrev PassesLimit : AnalyzedForm → Inputs → Type 0
-PassesLimit of inputs = AreMoreThan of.max (Reached of inputs)
-    ⊎ (Meets (drawn_form inputs) (MeetsSplits (drawn_form inputs)) (Reached of inputs)
-    ⊎ Meets (drawn_form inputs) (MeetsIndividuals (drawn_form inputs)) (Reached of inputs))
+-- a limit of the command is passed
+abbrev PassesLimit : CommandForm → AnalyzedForm → Inputs → Type 0
+PassesLimit command of inputs = PassesMost command of inputs
+    ⊎ (MeetsItsBudget command of inputs MeetsSplits ⊎ MeetsItsBudget command of inputs MeetsIndividuals)
 
 abbrev Stops : Option Held → CommandForm → Type 0
-Stops told command = FilesMeanSuch told command PassesLimit
+Stops told command = FilesMeanSuch told command (PassesLimit command)
 
 -- how a call ends that reads all its files and keeps its memory
 abbrev EndView : Option Held → CommandForm → Ending → Type 0
@@ -106,6 +114,8 @@ module _ (told : Option Held) where
   such_read (TellsMessage of edge number) P h = (h.0, h.1)
   such_read (TellsStructure of node index) P h = (h.0, h.1)
   such_read (TellsLosses of) P h = (h.0, h.1)
+  such_read (TakesStep of edge) P h = (h.0, h.1)
+  such_read (TellsCounts of) P h = (h.0, h.1)
   such_read other P h = absurd h
 
   such_also : (command : CommandForm) (P Q : AnalyzedForm → Inputs → Type 0)
@@ -114,7 +124,22 @@ module _ (told : Option Held) where
   such_also (TellsMessage of edge number) P Q f h = (h.0, h.1, f of h.0 h.2)
   such_also (TellsStructure of node index) P Q f h = (h.0, h.1, f of h.0 h.2)
   such_also (TellsLosses of) P Q f h = (h.0, h.1, f of h.0 h.2)
+  such_also (TakesStep of edge) P Q f h = (h.0, h.1, f of h.0 h.2)
+  such_also (TellsCounts of) P Q f h = (h.0, h.1, f of h.0 h.2)
   such_also other P Q f h = absurd h
+
+-- structures that are read are those of the file
+structures_file : (told : Option Held) (name : List ℕ) (p : Program) (read : StructuresText)
+    → IsStructuresText told name p read → IsInitialFile told name p (Ok read.structures)
+structures_file None name p read h = tt
+structures_file (Some held) name p read h =
+    (read.bytes.items, h.content, (h.read.size, (read.tokens.list.items, h.read.tokens, h.read.means)))
+
+structures_read : (told : Option Held) (program structures : List ℕ)
+    (AreSuch : Program → StructuresText → Type 0) → ReadsSuch told program structures AreSuch
+    → AreReadTogether told program structures
+structures_read told program structures AreSuch h =
+    (h.0, h.1, (h.2.0.structures, structures_file told structures h.0 h.2.0 h.2.1))
 
 module _ (told : Option Held)
     (source_read : (name : List ℕ) (read : SourceText) → IsSourceText told name read
@@ -128,6 +153,11 @@ module _ (told : Option Held)
     answer_read (TellsStructure of node index) a h = (h.0.0, h.0.1)
     answer_read (TellsLosses of) a h = (h.0, h.1)
     answer_read (Compiles source) a h = (h.0.0.program, source_read source h.0.0 h.0.1)
+    answer_read (TakesStep of edge) a h = (h.0.0, h.0.1)
+    answer_read (TellsPlan program mode delta) a h =
+        let x = read_of told delta program h.0.0 h.0.1 in (x.0, x.1)
+    answer_read (TellsCounts of) a h = (h.0.0, h.0.1)
+    answer_read (Completes program structures) a h = structures_read told program structures _ h.0
 
     done_read : (command : CommandForm) → CanAnswer told command → AreRead told command
     done_read (Shows program report) h = h
@@ -136,6 +166,10 @@ module _ (told : Option Held)
     done_read (TellsStructure of node index) h = (h.0, h.1)
     done_read (TellsLosses of) h = (h.0, h.1)
     done_read (Compiles source) h = (h.0.program, source_read source h.0 h.1)
+    done_read (TakesStep of edge) h = (h.0, h.1)
+    done_read (TellsPlan program mode delta) h = h
+    done_read (TellsCounts of) h = (h.0, h.1)
+    done_read (Completes program structures) h = h.0
 
     some_read : (command : CommandForm) → LosesSome told command → AreRead told command
     some_read (TellsLosses of) h = (h.0, h.1)
@@ -144,12 +178,20 @@ module _ (told : Option Held)
     absent_read : (command : CommandForm) (what : Sought) → IsAbsent told command what → AreRead told command
     absent_read (TellsMessage of edge number) what h = (h.0, h.1)
     absent_read (TellsStructure of node index) what h = (h.0, h.1)
+    absent_read (TakesStep of edge) what h = (h.0, h.1)
     absent_read other what h = absurd h
 
     unwritten_read : (command : CommandForm) (why : Unwritten) → IsUnwritten told command why
         → AreRead told command
     unwritten_read (Compiles source) why h = (h.0.program, source_read source h.0 h.1)
+    unwritten_read (Completes program structures) why h = structures_read told program structures _ h
     unwritten_read other why h = absurd h
+
+    unwritable_read : (command : CommandForm) (why : Unwritten) → CannotWrite told command why
+        → AreRead told command
+    unwritable_read (Compiles source) why h = (h.0.program, source_read source h.0 h.1)
+    unwritable_read (Completes program structures) why h = h.0
+    unwritable_read other why h = absurd h
 
 -- ---- what is there isn't lacking
 
@@ -195,17 +237,52 @@ one_lack p edge number sought.Message sought.Structure h k = absurd k
 one_lack p edge number sought.Node other h k = absurd h
 one_lack p edge number sought.Structure other h k = absurd h
 
+edge_there : (p : ProgramForm) (edge : ℕ) (what : Sought) → edge < length p.edges → LacksEdge p edge what → ⊥
+edge_there p edge sought.Edge has lacks = not_both edge (length p.edges) has lacks
+edge_there p edge other has lacks = lacks
+
+one_edge_lack : (p : ProgramForm) (edge : ℕ) (what other : Sought) → LacksEdge p edge what
+    → LacksEdge p edge other → what ≡ other
+one_edge_lack p edge sought.Edge sought.Edge h k = refl
+one_edge_lack p edge sought.Edge other h k = absurd k
+one_edge_lack p edge other last h k = absurd h
+
 -- ---- limits
 
 -- limits that are kept aren't passed
-kept : (of : AnalyzedForm) (a b : Inputs) → SameInputs a b → IsWithinLimits of a → PassesLimit of b → ⊥
-kept of a b same keeps passes = none
-    (moved (λ p i. KeepsLimits p of.mode i of.max) a b same keeps) passes
-  where
-    none : KeepsLimits (drawn_form b) of.mode b.initial of.max → PassesLimit of b → ⊥
-    none keeps (inl many) = keeps.few many
-    none keeps (inr (inl meets)) = (keeps.budgets meets.edge meets.at meets.source).splits meets.budget
-    none keeps (inr (inr meets)) = (keeps.budgets meets.edge meets.at meets.source).individuals meets.budget
+kept : (of : AnalyzedForm) (b : Inputs) → KeepsLimits (drawn_form b) of.mode b.initial of.max
+    → AreMoreThan of.max (Reached of b)
+    ⊎ (Meets (drawn_form b) (MeetsSplits (drawn_form b)) (Reached of b)
+    ⊎ Meets (drawn_form b) (MeetsIndividuals (drawn_form b)) (Reached of b)) → ⊥
+kept of b keeps (inl many) = keeps.few many
+kept of b keeps (inr (inl meets)) = (keeps.budgets meets.edge meets.at meets.source).splits meets.budget
+kept of b keeps (inr (inr meets)) = (keeps.budgets meets.edge meets.at meets.source).individuals meets.budget
+
+-- the budgets of reached structures
+kept_reached : (of asked : AnalyzedForm) (b : Inputs) → KeepsReached of b → PassesLimit (TellsCounts asked) of b
+    → ⊥
+kept_reached of asked b keeps (inl many) = many
+kept_reached of asked b keeps (inr (inl meets)) = (keeps meets.edge meets.at meets.source).splits meets.budget
+kept_reached of asked b keeps (inr (inr meets)) =
+    (keeps meets.edge meets.at meets.source).individuals meets.budget
+
+-- the budgets of steps along one edge
+kept_each : (of asked : AnalyzedForm) (edge : ℕ) (b : Inputs) → KeepsEach edge b
+    → PassesLimit (TakesStep asked edge) of b → ⊥
+kept_each of asked edge b keeps (inl many) = many
+kept_each of asked edge b keeps (inr (inl any)) =
+    (All-contains (KeepsBudgets (drawn_form b) edge) b.initial any.1 keeps (any.0, any.2, any.3)).splits any.4
+kept_each of asked edge b keeps (inr (inr any)) =
+    (All-contains (KeepsBudgets (drawn_form b) edge) b.initial any.1 keeps (any.0, any.2, any.3)).individuals any.4
+
+-- a step along an edge meets a budget only where there is the edge
+edge_met : (of asked : AnalyzedForm) (edge : ℕ) (b : Inputs) → PassesLimit (TakesStep asked edge) of b
+    → edge < length (drawn_form b).edges
+edge_met of asked edge b (inl many) = absurd many
+edge_met of asked edge b (inr (inl any)) =
+    slice_get_within (drawn_form b).edges edge any.4.its_action.taken any.4.its_action.its_edge
+edge_met of asked edge b (inr (inr any)) =
+    slice_get_within (drawn_form b).edges edge any.4.its_action.taken any.4.its_action.its_edge
 
 -- ---- losses
 
@@ -231,6 +308,13 @@ module _ (of : AnalyzedForm) (a b : Inputs) (same : SameInputs a b) where
       → LacksMessage (drawn_form b) edge number what
   lacks_message edge number what h = moved (λ p i. LacksMessage p edge number what) a b same h
 
+  lacks_edge : (edge : ℕ) (what : Sought) → LacksEdge (drawn_form a) edge what
+      → LacksEdge (drawn_form b) edge what
+  lacks_edge edge what h = moved (λ p i. LacksEdge p edge what) a b same h
+
+  has_edge : (edge : ℕ) → edge < length (drawn_form a).edges → edge < length (drawn_form b).edges
+  has_edge edge h = moved (λ p i. edge < length p.edges) a b same h
+
   has_message : (edge number : ℕ) → HasMessage (drawn_form a) edge number → HasMessage (drawn_form b) edge number
   has_message edge number h = moved (λ p i. HasMessage p edge number) a b same h
 
@@ -247,25 +331,50 @@ message_lack p of inputs edge number sought.Edge h = h
 message_lack p of inputs edge number sought.Message h = h
 message_lack p of inputs edge number other h = h
 
+-- the edge that the words name isn't there
+edge_lack : (asked of : AnalyzedForm) (inputs : Inputs) (edge : ℕ) (what : Sought)
+    → NamesNothing (TakesStep asked edge) of inputs what → LacksEdge (drawn_form inputs) edge what
+edge_lack asked of inputs edge sought.Edge h = h
+edge_lack asked of inputs edge other h = h
+
 -- ---- compiled programs
 
 -- a program that can be written isn't left unwritten
 written_not : (a b : SourceText) (why : Unwritten) → (compiled_lines a ≡ compiled_lines b)
     → SameProgram a.program b.program → CanBeWritten a → HasNoText b why → ⊥
-written_not a b unwritten.TooLong same program can lacking =
+written_not a b unwritten.LongProgram same program can lacking =
     not_both longest_gathered (length (compiled_lines a))
     (subst (λ (t : List ℕ). longest_gathered < length t) (sym same) lacking) can.fits
-written_not a b unwritten.Differs same program can lacking =
+written_not a b unwritten.OtherProgram same program can lacking =
     lacking (subst (λ p. Means (compiled_lines b) p) program
     (subst (λ t. Means t (program_of a.program)) same can.means))
+written_not a b other same program can lacking = lacking
+
+-- what can be completed isn't left unwritten
+completed_not : (p : Program) (read : StructuresText) (why : Unwritten) → CanBeCompleted p read
+    → HasNoCompletion why p read → ⊥
+completed_not p read unwritten.LongCompletion can h =
+    not_both longest_gathered (length h.1) h.3 (can h.0 h.1 h.2).0
+completed_not p read unwritten.OtherCompletion can h = h.3 (can h.0 h.1 h.2).1
+completed_not p read other can h = h
+
+-- nor is what was completed
+completion_lacks : (p : Program) (read : StructuresText) (why : Unwritten) (completed : List StructureForm)
+    (text : List ℕ) → IsCompletionOf p read completed text → length text ≤ longest_gathered
+    → ReadsAsStructures p.vocab text completed → CannotBeCompleted why p read → ⊥
+completion_lacks p read unwritten.LongCompletion completed text is fits means lacking =
+    not_both longest_gathered (length text) (lacking completed text is) fits
+completion_lacks p read unwritten.OtherCompletion completed text is fits means lacking =
+    lacking completed text is means
+completion_lacks p read other completed text is fits means lacking = lacking
 
 -- ---- endings that are due
 
-alike : (a b ending due : Ending) → ending ≡ a → due ≡ b → without_place a ≡ without_place b
-    → without_place ending ≡ without_place due
-alike a b ending due e d h = ap without_place e ∙ h ∙ sym (ap without_place d)
+alike : (a b ending due : Ending) → ending ≡ a → due ≡ b → without_details a ≡ without_details b
+    → without_details ending ≡ without_details due
+alike a b ending due e d h = ap without_details e ∙ h ∙ sym (ap without_details d)
 
-answered : (is_lost lost : Bool) → is_lost ≡ lost → without_place (ending_with is_lost) ≡ ending_with lost
+answered : (is_lost lost : Bool) → is_lost ≡ lost → without_details (ending_with is_lost) ≡ ending_with lost
 answered is_lost true e = rw e refl
 answered is_lost false e = rw e refl
 
@@ -301,6 +410,10 @@ module _ (told : Option Held)
     done_answer (TellsMessage of edge number) a h can = h.1
     done_answer (TellsStructure of node index) a h can = h.1
     done_answer (Compiles source) a h can = h.1
+    done_answer (TakesStep of edge) a h can = h.1
+    done_answer (TellsPlan program mode delta) a h can = h.1
+    done_answer (TellsCounts of) a h can = h.1
+    done_answer (Completes program structures) a h can = h.1
 
     lost_answer : (command : CommandForm) (a : Answer) → IsAnswer told command a → LosesSome told command
         → a.is_lost ≡ true
@@ -330,10 +443,13 @@ module _ (told : Option Held)
             h.0.2.0 led.structures h.0.2.1 led.listed in
             past_within led.structures index led.structure led.there past
         by other none = none
+    answer_there (TakesStep of edge) a what h lacks =
+        edge_there (drawn_form h.0.0) edge what h.0.2.within
+        (lacks_edge of lacks.0 h.0.0 (same_inputs of lacks.0 h.0.0 lacks.1 h.0.1) edge what lacks.2)
     answer_there other a what h lacks = lacks
 
     answer_written : (command : CommandForm) (a : Answer) (why : Unwritten) → IsAnswer told command a
-        → IsUnwritten told command why → ⊥
+        → CannotWrite told command why → ⊥
     answer_written (Compiles source) a why h lacking =
         let both = texts source h.0.0 lacking.0 h.0.1 lacking.1 in
         written_not h.0.0 lacking.0 why both.0 both.1 (can h.0.0 a.text.items h.0.2) lacking.2
@@ -343,17 +459,34 @@ module _ (told : Option Held)
           fits = subst (λ (t : List ℕ). length t ≤ longest_gathered) is.is is.fits;
           means = subst (λ t. Means t (program_of read.program)) is.is is.means;
         }
+    answer_written (Completes program structures) a why h lacking =
+        let read = h.0.2 in
+        completion_lacks h.0.0 read.0 why read.2.completed a.text.items read.2.is read.2.fits read.2.means
+        (lacking.1 h.0.0 read.0 h.0.1 read.1)
     answer_written other a why h lacking = lacking
 
     -- ---- limits, and what isn't there
 
-    within_limits : (command : CommandForm) → Stops told command → FilesMeanSuch told command IsWithinLimits → ⊥
+    -- the command's inputs are those of which it was said
+    as_said : (of : AnalyzedForm) (P : ProgramForm → List StructureForm → Type 0) (a b : Inputs)
+        → FilesMean told of a → FilesMean told of b → P (drawn_form a) a.initial → P (drawn_form b) b.initial
+    as_said of P a b h k is = moved P a b (same_inputs of a b h k) is
+
+    kept_said : (of : AnalyzedForm) (a b : Inputs) → FilesMean told of a → FilesMean told of b
+        → IsWithinLimits of a → KeepsLimits (drawn_form b) of.mode b.initial of.max
+    kept_said of a b h k is = as_said of (λ p i. KeepsLimits p of.mode i of.max) a b h k is
+
+    within_limits : (command : CommandForm) → Stops told command
+        → FilesMeanSuch told command (KeepsItsLimits command) → ⊥
     within_limits (TellsMessage of edge number) h keeps =
-        kept of keeps.0 h.0 (same_inputs of keeps.0 h.0 keeps.1 h.1) keeps.2 h.2
+        kept of h.0 (kept_said of keeps.0 h.0 keeps.1 h.1 keeps.2) h.2
     within_limits (TellsStructure of node index) h keeps =
-        kept of keeps.0 h.0 (same_inputs of keeps.0 h.0 keeps.1 h.1) keeps.2 h.2
-    within_limits (TellsLosses of) h keeps =
-        kept of keeps.0 h.0 (same_inputs of keeps.0 h.0 keeps.1 h.1) keeps.2 h.2
+        kept of h.0 (kept_said of keeps.0 h.0 keeps.1 h.1 keeps.2) h.2
+    within_limits (TellsLosses of) h keeps = kept of h.0 (kept_said of keeps.0 h.0 keeps.1 h.1 keeps.2) h.2
+    within_limits (TakesStep of edge) h keeps = kept_each of of edge h.0
+        (as_said of (λ p i. All (KeepsBudgets p edge) i) keeps.0 h.0 keeps.1 h.1 keeps.2) h.2
+    within_limits (TellsCounts of) h keeps = kept_reached of of h.0
+        (as_said of (λ p i. KeepAllBudgets p (IsReached p of.mode i)) keeps.0 h.0 keeps.1 h.1 keeps.2) h.2
     within_limits other h keeps = h
 
     done_within : (command : CommandForm) → Stops told command → CanAnswer told command → ⊥
@@ -362,6 +495,8 @@ module _ (told : Option Held)
     done_within (TellsStructure of node index) h can =
         within_limits (TellsStructure of node index) h (can.0, can.1, can.2)
     done_within (TellsLosses of) h can = within_limits (TellsLosses of) h (can.0, can.1, can.2)
+    done_within (TakesStep of edge) h can = within_limits (TakesStep of edge) h (can.0, can.1, can.2)
+    done_within (TellsCounts of) h can = within_limits (TellsCounts of) h (can.0, can.1, can.2)
     done_within other h can = h
 
     some_within : (command : CommandForm) → Stops told command → LosesSome told command → ⊥
@@ -373,6 +508,9 @@ module _ (told : Option Held)
         within_limits (TellsMessage of edge number) h (lacks.0, lacks.1, lacks.2)
     stops_there (TellsStructure of node index) what h lacks =
         within_limits (TellsStructure of node index) h (lacks.0, lacks.1, lacks.2)
+    stops_there (TakesStep of edge) what h lacks =
+        edge_there (drawn_form h.0) edge what (edge_met of of edge h.0 h.2)
+        (lacks_edge of lacks.0 h.0 (same_inputs of lacks.0 h.0 lacks.1 h.1) edge what lacks.2)
     stops_there other what h lacks = lacks
 
     -- ---- what isn't there
@@ -398,6 +536,11 @@ module _ (told : Option Held)
             none.2.2
         by other none = none
     absent_done (TellsLosses of) what h can = h.2
+    absent_done (TakesStep of edge) what h can =
+        edge_there (drawn_form h.0) edge what
+        (has_edge of can.0 h.0 (same_inputs of can.0 h.0 can.1 h.1) edge can.3)
+        (edge_lack of of h.0 edge what h.2)
+    absent_done (TellsCounts of) what h can = h.2
     absent_done other what h can = h
 
     absent_some : (command : CommandForm) (what : Sought)
@@ -431,6 +574,9 @@ module _ (told : Option Held)
         by sought.Structure sought.Message none lacks = absurd lacks
         by sought.Edge other none lacks = absurd none
         by sought.Message other none lacks = absurd none
+    one_absence (TakesStep of edge) what other h lacks =
+        one_edge_lack (drawn_form h.0) edge what other (edge_lack of of h.0 edge what h.2)
+        (lacks_edge of lacks.0 h.0 (same_inputs of lacks.0 h.0 lacks.1 h.1) edge other lacks.2)
     one_absence other what sought h lacks = absurd lacks
 
     -- ---- programs that aren't written
@@ -440,22 +586,28 @@ module _ (told : Option Held)
     unwritten_done (Compiles source) why lacking can =
         let both = texts source can.0 lacking.0 can.1 lacking.1 in
         written_not can.0 lacking.0 why both.0 both.1 can.2 lacking.2
+    unwritten_done (Completes program structures) why lacking can =
+        let read = lacking.2 in
+        completed_not lacking.0 read.0 why (can.1 lacking.0 read.0 lacking.1 read.1) read.2
     unwritten_done other why lacking can = lacking
 
     unwritten_some : (command : CommandForm) (why : Unwritten) → IsUnwritten told command why
         → LosesSome told command → ⊥
     unwritten_some (Compiles source) why lacking some = some
+    unwritten_some (Completes program structures) why lacking some = some
     unwritten_some other why lacking some = lacking
 
     unwritten_absent : (command : CommandForm) (why : Unwritten) (what : Sought)
         → IsUnwritten told command why → IsAbsent told command what → ⊥
     unwritten_absent (Compiles source) why what lacking lacks = lacks
+    unwritten_absent (Completes program structures) why what lacking lacks = lacks
     unwritten_absent other why what lacking lacks = lacking
 
-    unwritten_such : (command : CommandForm) (why : Unwritten) (P : AnalyzedForm → Inputs → Type 0)
-        → IsUnwritten told command why → FilesMeanSuch told command P → ⊥
-    unwritten_such (Compiles source) why P lacking h = h
-    unwritten_such other why P lacking h = lacking
+    unwritable_such : (command : CommandForm) (why : Unwritten) (P : AnalyzedForm → Inputs → Type 0)
+        → CannotWrite told command why → FilesMeanSuch told command P → ⊥
+    unwritable_such (Compiles source) why P lacking h = h
+    unwritable_such (Completes program structures) why P lacking h = h
+    unwritable_such other why P lacking h = lacking
 
     -- ---- one after the other
 
@@ -464,7 +616,7 @@ module _ (told : Option Held)
     read_not_refused command r k refused read = unrefused command r k read refused
 
     answer_duly : (command : CommandForm) (a : Answer) (ending due : Ending) → ending ≡ ending_with a.is_lost
-        → IsAnswer told command a → DueView told command due → without_place ending ≡ without_place due
+        → IsAnswer told command a → DueView told command due → without_details ending ≡ without_details due
     answer_duly command a ending due e is (inl (d, can)) =
         alike (ending_with a.is_lost) (As status.Done) ending due e d
         (answered a.is_lost false (done_answer command a is can))
@@ -480,7 +632,7 @@ module _ (told : Option Held)
 
     refused_duly : (command : CommandForm) (r : Role) (k : FileKind) (ending due : Ending)
         → ending ≡ As (status.FileFault r k) → IsRefused told command r k → DueView told command due
-        → without_place ending ≡ without_place due
+        → without_details ending ≡ without_details due
     refused_duly command r k ending due e is (inl (d, can)) =
         absurd (unrefused command r k (done_read told source_read command can) is)
     refused_duly command r k ending due e is (inr (inl (d, some))) =
@@ -491,7 +643,7 @@ module _ (told : Option Held)
     refused_duly command r k ending due e is (inr (inr (inr (inl (what, d, lacks))))) =
         absurd (unrefused command r k (absent_read told source_read command what lacks) is)
     refused_duly command r k ending due e is (inr (inr (inr (inr (why, d, lacking))))) =
-        absurd (unrefused command r k (unwritten_read told source_read command why lacking) is)
+        absurd (unrefused command r k (unwritable_read told source_read command why lacking) is)
 
     stopped_duly : (command : CommandForm) (due : Ending) → Stops told command → DueView told command due → ⊥
     stopped_duly command due h (inl (d, can)) = done_within command h can
@@ -499,11 +651,11 @@ module _ (told : Option Held)
     stopped_duly command due h (inr (inr (inl (r, k, d, refused)))) =
         unrefused command r k (such_read told command _ h) refused
     stopped_duly command due h (inr (inr (inr (inl (what, d, lacks))))) = stops_there command what h lacks
-    stopped_duly command due h (inr (inr (inr (inr (why, d, lacking))))) = unwritten_such command why _ lacking h
+    stopped_duly command due h (inr (inr (inr (inr (why, d, lacking))))) = unwritable_such command why _ lacking h
 
     absent_duly : (command : CommandForm) (what : Sought) (ending due : Ending) → ending ≡ Absent what
         → FilesMeanSuch told command (λ of inputs. NamesNothing command of inputs what)
-        → DueView told command due → without_place ending ≡ without_place due
+        → DueView told command due → without_details ending ≡ without_details due
     absent_duly command what ending due e h (inl (d, can)) = absurd (absent_done command what h can)
     absent_duly command what ending due e h (inr (inl (d, some))) = absurd (absent_some command what h some)
     absent_duly command what ending due e h (inr (inr (inl (r, k, d, refused)))) =
@@ -511,10 +663,10 @@ module _ (told : Option Held)
     absent_duly command what ending due e h (inr (inr (inr (inl (other, d, lacks))))) =
         alike (Absent what) (Absent other) ending due e d (ap Absent (one_absence command what other h lacks))
     absent_duly command what ending due e h (inr (inr (inr (inr (why, d, lacking))))) =
-        absurd (unwritten_such command why _ lacking h)
+        absurd (unwritable_such command why _ lacking h)
 
     unwritten_duly : (command : CommandForm) (why : Unwritten) (ending due : Ending) → ending ≡ Unwritable why
-        → IsUnwritten told command why → DueView told command due → without_place ending ≡ without_place due
+        → IsUnwritten told command why → DueView told command due → without_details ending ≡ without_details due
     unwritten_duly command why ending due e lacking (inl (d, can)) = absurd (unwritten_done command why lacking can)
     unwritten_duly command why ending due e lacking (inr (inl (d, some))) =
         absurd (unwritten_some command why lacking some)
@@ -526,7 +678,7 @@ module _ (told : Option Held)
         alike (Unwritable why) (Unwritable other) ending due e d refl
 
     command_duly : (command : CommandForm) (ending due : Ending) → EndView told command ending
-        → DueView told command due → without_place ending ≡ without_place due
+        → DueView told command due → without_details ending ≡ without_details due
     command_duly command ending due (inl (a, e, is)) view = answer_duly command a ending due e is view
     command_duly command ending due (inr (inl (r, k, e, is))) view = refused_duly command r k ending due e is view
     command_duly command ending due (inr (inr (inl (limit, h)))) view = absurd (stopped_duly command due h view)
@@ -555,7 +707,7 @@ found_ends words told rose steady (Err (fault.Structures max)) h =
       inr (inr (inl (
         tt,
         such_also told h.0 (λ of i. IsStopped h.0 of i (fault.Structures max))
-            PassesLimit (λ of i stop. inl (subst (λ m. AreMoreThan m (Reached of i)) stop.0 stop.1)) h.2,
+            (PassesLimit h.0) (λ of i stop. inl stop.1) h.2,
       ))),
     ))
 found_ends words told rose steady (Err fault.TooManySplits) h =
@@ -565,7 +717,7 @@ found_ends words told rose steady (Err fault.TooManySplits) h =
       inr (inr (inl (
         tt,
         such_also told h.0 (λ of i. IsStopped h.0 of i fault.TooManySplits)
-            PassesLimit (λ of i stop. inr (inl stop)) h.2,
+            (PassesLimit h.0) (λ of i stop. inr (inl stop)) h.2,
       ))),
     ))
 found_ends words told rose steady (Err fault.TooManyIndividuals) h =
@@ -575,7 +727,7 @@ found_ends words told rose steady (Err fault.TooManyIndividuals) h =
       inr (inr (inl (
         tt,
         such_also told h.0 (λ of i. IsStopped h.0 of i fault.TooManyIndividuals)
-            PassesLimit (λ of i stop. inr (inr stop)) h.2,
+            (PassesLimit h.0) (λ of i stop. inr (inr stop)) h.2,
       ))),
     ))
 found_ends words told rose steady (Err (fault.NotThere what)) h =
@@ -675,7 +827,7 @@ module _ (one : (words : List (List ℕ)) (a b : CommandForm) → Spells words a
       spelled_duly : (words : List (List ℕ)) (ending due : Ending)
           → Commands words (λ command. EndView told command ending)
           → Commands words (λ command. IsSome told × CommandOwes told command due)
-          → without_place ending ≡ without_place due
+          → without_details ending ≡ without_details due
       spelled_duly words ending due h calls =
           let same = one words h.0 calls.0 h.1 calls.1 in
           command_duly told program_files source_files initial_files report_files (source_file told)
@@ -684,13 +836,14 @@ module _ (one : (words : List (List ℕ)) (a b : CommandForm) → Spells words a
 
       spelled_within : (words : List (List ℕ)) (ending : Ending)
           → Commands words (λ command. EndView told command ending)
-          → Commands words (λ command. IsSome told × FilesMeanSuch told command IsWithinLimits) → ¬ AtLimit ending
+          → Commands words (λ command. IsSome told × FilesMeanSuch told command (KeepsItsLimits command))
+          → ¬ AtLimit ending
       spelled_within words ending h keeps limit =
           let same = one words h.0 keeps.0 h.1 keeps.1 in
           limited keeps.0 ending (subst (λ c. EndView told c ending) same h.2) keeps.2.1 limit
         where
           limited : (command : CommandForm) (ending : Ending) → EndView told command ending
-              → FilesMeanSuch told command IsWithinLimits → AtLimit ending → ⊥
+              → FilesMeanSuch told command (KeepsItsLimits command) → AtLimit ending → ⊥
           limited command ending (inl (a, e, is)) keeps limit =
               unlimited a.is_lost (subst AtLimit e limit)
             where
@@ -705,13 +858,13 @@ module _ (one : (words : List (List ℕ)) (a b : CommandForm) → Spells words a
           limited command ending (inr (inr (inr (inr (why, e, lacking))))) keeps limit = subst AtLimit e limit
 
     usage_duly : (words : List (List ℕ)) (told : Option Held) (ending due : Ending) → ending ≡ As status.Usage
-        → SpellsNothing words → CallView words told due → without_place ending ≡ without_place due
+        → SpellsNothing words → CallView words told due → without_details ending ≡ without_details due
     usage_duly words told ending due e none (inl nothing) =
         alike (As status.Usage) (As status.Usage) ending due e nothing.0 refl
     usage_duly words told ending due e none (inr calls) = absurd (none calls.0 calls.1)
 
     called_duly : (words : List (List ℕ)) (told : Option Held) (ending due : Ending) → CallEnds words told ending
-        → CallView words told due → (without_place ending ≡ without_place due) ⊎ MayStand ending
+        → CallView words told due → (without_details ending ≡ without_details due) ⊎ MayStand ending
     called_duly words told ending due (inl (e, none)) view = inl (usage_duly words told ending due e none view)
     called_duly words told ending due (inr (inl excuse)) view = inr excuse
     called_duly words told ending due (inr (inr h)) (inl (d, none)) = absurd (none h.0 h.1)

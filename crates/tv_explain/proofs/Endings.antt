@@ -13,7 +13,8 @@ use Rattle.tv_explain.specs.declared.fault.Fault.TheVariants.{Usage, FileFault, 
 use Rattle.tv_explain.specs.declared.fault.Fault.TheVariants.{TooManyIndividuals, NotThere, NotWritten}
 use Rattle.tv_explain.specs.declared.fault.Fault.TheVariants.{ReadFault, Memory}
 use Rattle.tv_explain_words.specs.Words.{AnalyzedForm, CommandForm, Shows, ListsEdges, TellsMessage}
-use Rattle.tv_explain_words.specs.Words.{TellsStructure, TellsLosses, Compiles, Spells}
+use Rattle.tv_explain_words.specs.Words.{TellsStructure, TellsLosses, Compiles, TakesStep, TellsPlan}
+use Rattle.tv_explain_words.specs.Words.{TellsCounts, Completes, Spells}
 
 module _ (told : Option Held) where
   inputs_not_missing : (of : AnalyzedForm) → HoldsInputs told of → LacksInputs told of → ⊥
@@ -28,6 +29,11 @@ module _ (told : Option Held) where
   not_missing (TellsStructure of node index) holds lacks = inputs_not_missing of holds lacks
   not_missing (TellsLosses of) holds lacks = inputs_not_missing of holds lacks
   not_missing (Compiles source) holds lacks = lacks holds
+  not_missing (TakesStep of edge) holds lacks = inputs_not_missing of holds lacks
+  not_missing (TellsPlan program mode delta) holds lacks = holds lacks
+  not_missing (TellsCounts of) holds lacks = inputs_not_missing of holds lacks
+  not_missing (Completes program structures) holds (inl lacks) = holds.0 lacks
+  not_missing (Completes program structures) holds (inr later) = later.2 holds.1
 
   -- no file is missing where all that the command asks for are there
   pub none_missing : ((words : List (List ℕ)) (a b : CommandForm) → Spells words a → Spells words b → a ≡ b)

@@ -7,5 +7,7 @@ mod EdgesDrawn
 mod EdgesKept
 mod EdgesWired
 mod Endings
+mod Questions
 mod Silence
+mod Steps
 mod Trees

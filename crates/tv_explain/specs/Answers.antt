@@ -1,21 +1,32 @@
 -- What a command answers, and what it gives no answer for.
 use Rattle.std.specs.Prelude.{ℕ, ◌≡◌, ◌⊎◌, ◌<◌, ◌≤◌, false, List, ◌++◌, Option, Some, Ok, length, slice_get}
 use Rattle.std.specs.Prelude.{codes}
-use Rattle.std.specs.Prelude.{Contains}
+use Rattle.std.specs.Prelude.{Any, Contains}
+use Rattle.std.specs.List.{AllZip}
 use Rattle.tv_compiled.specs.Compiled.{IsCause, written}
 use Rattle.tv_compiled.specs.declared.error.CompiledError.TheVariants as compiled
 use Rattle.tv_compiled_laws.specs.Laws.{MeansInFiles}
+use Rattle.tv_complete_text.specs.Text.{IsCauseOfNone, IsCompletedText, IsCompletion}
+use Rattle.tv_complete_text.specs.declared.error.CompletionError.TheVariants as completion
+use Rattle.tv_counts.specs.Counts.{IsCountsText}
+use Rattle.tv_plan.specs.Texts.{IsPlanText}
+use Rattle.tv_stages_laws.specs.Stages.{IsSlowStep}
+use Rattle.tv_stages_laws.specs.declared.record.SlowStep.{SlowStep}
+use Rattle.tv_stages_text.specs.Texts.{stages_text}
 use Rattle.tv_texts.specs.Sources.{IsSourceText}
+use Rattle.tv_texts.specs.Structures.{IsStructuresText}
 use Rattle.tv_texts.specs.declared.source.SourceText.{SourceText}
+use Rattle.tv_texts.specs.declared.structures.StructuresText.{StructuresText}
 use Rattle.tv_kleene.specs.declared.K3.{K3}
 use Rattle.tv_lex.specs.Gather.{longest_gathered}
 use Rattle.tv_listing.specs.declared.analysis.Analysis.{Analysis}
 use Rattle.tv_losses_text.specs.Reports.{IsLossReport}
-use Rattle.tv_model.specs.Program.{MessageForm, program_of}
+use Rattle.tv_model.specs.Program.{MessageForm, ProgramForm, program_of}
 use Rattle.tv_model.specs.declared.program.Program.{Program}
 use Rattle.tv_outside.specs.Told.{Held}
 use Rattle.tv_trail.specs.Reasons.{HasNone, IsLedToBy, IsNeverRaised, IsRaisedBy}
 use Rattle.tv_step_laws.specs.Budgets.{MeetsIndividuals, MeetsSplits}
+use Rattle.tv_structure_form.specs.StructureForm.{StructureForm}
 use Rattle.tv_texts.specs.Files.{IsProgramFile, IsReportFile}
 use Rattle.tv_texts.specs.Meaning.{MeansProgram}
 use Rattle.tv_trail_laws.specs.declared.trail.Trail.{Trail}
@@ -36,7 +47,8 @@ use Rattle.tv_explain.specs.declared.inputs.Inputs.{Inputs}
 use Rattle.tv_explain_text.specs.Texts.{edges_text, messages_at, shown_text}
 use Rattle.tv_explain_text.specs.Trails.{raised_line, trail_text}
 use Rattle.tv_explain_words.specs.Words.{AnalyzedForm, CommandForm, Shows, ListsEdges, TellsMessage}
-use Rattle.tv_explain_words.specs.Words.{TellsStructure, TellsLosses, Compiles}
+use Rattle.tv_explain_words.specs.Words.{TellsStructure, TellsLosses, Compiles, TakesStep, TellsPlan}
+use Rattle.tv_explain_words.specs.Words.{TellsCounts, Completes}
 
 -- ---- messages and structures
 
@@ -90,14 +102,45 @@ pub record IsCompiledText (source : SourceText) (text : List ℕ) : Type 0 where
 
 -- the program isn't written: its text would be too long, or doesn't mean it
 abbrev pub HasNoText : SourceText → Unwritten → Type 0
-HasNoText source unwritten.TooLong = IsCause source.program (compiled_lines source) compiled.TooLong
-HasNoText source unwritten.Differs = IsCause source.program (compiled_lines source) compiled.Differs
+HasNoText source unwritten.LongProgram = IsCause source.program (compiled_lines source) compiled.TooLong
+HasNoText source unwritten.OtherProgram = IsCause source.program (compiled_lines source) compiled.Differs
+HasNoText source other = ⊥
+
+-- ---- steps and completed files
+
+-- the text is that of the step of each of the structures along the edge, stage by stage
+pub record IsStepText (of : AnalyzedForm) (inputs : Inputs) (edge : ℕ) (text : List ℕ) : Type 0 where
+  pub within : edge < length (drawn_form inputs).edges
+  pub steps : List SlowStep
+  pub are : AllZip (IsSlowStep (drawn_form inputs) of.mode edge) inputs.initial steps
+  pub is : text ≡ stages_text inputs.drawn.program 0 inputs.initial steps
+
+-- STRUCTURES is read over PROGRAM, and this is so of both
+abbrev pub ReadsSuch : Option Held → (program structures : List ℕ) → (Program → StructuresText → Type 0)
+    → Type 0
+ReadsSuch told program structures AreSuch = (p : Program) × IsProgramFile told program (Ok p)
+    × ((read : StructuresText) × IsStructuresText told structures p read × AreSuch p read)
+
+-- the structures with what they don't name, written into their text
+abbrev pub IsCompletionOf : Program → StructuresText → (completed : List StructureForm) → (text : List ℕ)
+    → Type 0
+IsCompletionOf p read completed text =
+    IsCompletion p read.bytes.items read.tokens.list.items read.structures completed text
+
+-- the completed file isn't written, for this reason
+abbrev pub HasNoCompletion : Unwritten → Program → StructuresText → Type 0
+HasNoCompletion unwritten.LongCompletion p read =
+    IsCauseOfNone p read.bytes.items read.tokens.list.items read.structures completion.TooLong
+HasNoCompletion unwritten.OtherCompletion p read =
+    IsCauseOfNone p read.bytes.items read.tokens.list.items read.structures completion.Differs
+HasNoCompletion other p read = ⊥
 
 -- ---- answers
 
 -- The text is what the command gives, where that is a text alone: the structures of REPORT, a report on
 -- PROGRAM; the control edges of PROGRAM as its text has them, with the messages of their actions; a
--- shortest trail; or the program that SOURCE is compiled to.
+-- shortest trail; the program that SOURCE is compiled to; the steps of STRUCTURES; what the actions of
+-- PROGRAM do to defined predicates; how many structures are listed; or STRUCTURES with what it doesn't name.
 abbrev pub IsText : Option Held → CommandForm → (text : List ℕ) → Type 0
 IsText told (Shows program report) text = (p : Program) × IsProgramFile told program (Ok p)
     × ((a : Analysis) × IsReportFile told report p (Ok a) × (text ≡ shown_text p a.listing))
@@ -110,6 +153,14 @@ IsText told (TellsStructure of node index) text = (inputs : Inputs) × FilesMean
 IsText told (TellsLosses of) text = ⊥
 IsText told (Compiles source) text =
     (read : SourceText) × IsSourceText told source read × IsCompiledText read text
+IsText told (TakesStep of edge) text = (inputs : Inputs) × FilesMean told of inputs
+    × IsStepText of inputs edge text
+IsText told (TellsPlan program mode delta) text = (drawn : Drawn) × IsDrawnFile told delta program drawn
+    × IsPlanText (program_of drawn.program) mode drawn.heads.items text
+IsText told (TellsCounts of) text = (inputs : Inputs) × FilesMean told of inputs
+    × IsCountsText (drawn_form inputs) of.mode inputs.initial of.max text
+IsText told (Completes program structures) text = ReadsSuch told program structures
+    (λ p read. IsCompletedText p read.bytes.items read.tokens.list.items read.structures text)
 
 -- The answer is what the command gives: of `losses` what the analysis loses; of each other a text, and that
 -- nothing is lost.
@@ -135,16 +186,29 @@ NamesNothing (TellsStructure asked node index) of inputs sought.Node =
 NamesNothing (TellsStructure asked node index) of inputs sought.Structure = (place : ℕ)
     × (slice_get (drawn_form inputs).nodes place ≡ Some node)
     × HasNone (drawn_form inputs) of.mode inputs.initial of.max place index
+NamesNothing (TakesStep asked edge) of inputs sought.Edge = length (drawn_form inputs).edges ≤ edge
 NamesNothing command of inputs other = ⊥
 
+-- more structures are reached than may be listed; a step, and counts, have no such limit
+abbrev pub PassesMost : CommandForm → AnalyzedForm → Inputs → Type 0
+PassesMost (TakesStep asked edge) of inputs = ⊥
+PassesMost (TellsCounts asked) of inputs = ⊥
+PassesMost command of inputs = AreMoreThan of.max (Reached of inputs)
+
+-- a step that the command takes meets the budget: that of a structure along the command's edge, of an
+-- analysis that of a reached structure
+abbrev pub MeetsItsBudget : CommandForm → AnalyzedForm → Inputs
+    → (Budget : ProgramForm → (edge : ℕ) → StructureForm → Type 0) → Type 0
+MeetsItsBudget (TakesStep asked edge) of inputs Budget = Any (Budget (drawn_form inputs) edge) inputs.initial
+MeetsItsBudget command of inputs Budget =
+    Meets (drawn_form inputs) (Budget (drawn_form inputs)) (Reached of inputs)
+
 -- why the command gives no text where its files mean these: more structures are reached than may be listed,
--- the step of a reached structure meets a budget, what is named isn't there, or memory ran out
+-- a step that it takes meets a budget, what is named isn't there, or memory ran out
 abbrev pub IsStopped : CommandForm → AnalyzedForm → Inputs → Fault → Type 0
-IsStopped command of inputs (Structures max) = (max ≡ of.max) × AreMoreThan max (Reached of inputs)
-IsStopped command of inputs TooManySplits =
-    Meets (drawn_form inputs) (MeetsSplits (drawn_form inputs)) (Reached of inputs)
-IsStopped command of inputs TooManyIndividuals =
-    Meets (drawn_form inputs) (MeetsIndividuals (drawn_form inputs)) (Reached of inputs)
+IsStopped command of inputs (Structures max) = (max ≡ of.max) × PassesMost command of inputs
+IsStopped command of inputs TooManySplits = MeetsItsBudget command of inputs MeetsSplits
+IsStopped command of inputs TooManyIndividuals = MeetsItsBudget command of inputs MeetsIndividuals
 IsStopped command of inputs (NotThere what) = NamesNothing command of inputs what
 IsStopped command of inputs Memory = Unit {0}
 IsStopped command of inputs other = ⊥
@@ -159,9 +223,17 @@ FilesMeanSuch told (TellsStructure of node index) AreSuch =
     (inputs : Inputs) × FilesMean told of inputs × AreSuch of inputs
 FilesMeanSuch told (TellsLosses of) AreSuch = (inputs : Inputs) × FilesMean told of inputs × AreSuch of inputs
 FilesMeanSuch told (Compiles source) AreSuch = ⊥
+FilesMeanSuch told (TakesStep of edge) AreSuch =
+    (inputs : Inputs) × FilesMean told of inputs × AreSuch of inputs
+FilesMeanSuch told (TellsPlan program mode delta) AreSuch = ⊥
+FilesMeanSuch told (TellsCounts of) AreSuch = (inputs : Inputs) × FilesMean told of inputs × AreSuch of inputs
+FilesMeanSuch told (Completes program structures) AreSuch = ⊥
 
--- it is a command on a source program, which is compiled and isn't written, for this reason
+-- it is a command on a source program, which is compiled, or on structures that are completed, and what
+-- comes of it isn't written, for this reason
 abbrev pub IsUnwritten : Option Held → CommandForm → Unwritten → Type 0
 IsUnwritten told (Compiles source) why =
     (read : SourceText) × IsSourceText told source read × HasNoText read why
+IsUnwritten told (Completes program structures) why =
+    ReadsSuch told program structures (HasNoCompletion why)
 IsUnwritten told other why = ⊥

@@ -1,6 +1,6 @@
 -- Which ending the words of a call and what its files hold call for.
 use Rattle.std.specs.Prelude.{ℕ, ◌≡◌, ◌⊎◌, ◌<◌, ◌≤◌, List, Option, Some, IsSome, Ok, Contains, length}
-use Rattle.std.specs.Prelude.{slice_get}
+use Rattle.std.specs.Prelude.{All, slice_get}
 use Rattle.tv_lex.specs.Gather.{longest_gathered}
 use Rattle.tv_listing.specs.declared.analysis.Analysis.{Analysis}
 use Rattle.tv_losses.specs.Losses.{AreLosses}
@@ -11,27 +11,33 @@ use Rattle.tv_model.specs.declared.program.Mode.{Mode}
 use Rattle.tv_model.specs.declared.program.Program.{Program}
 use Rattle.tv_outside.specs.Told.{Held}
 use Rattle.tv_status.specs.declared.status.Status.TheVariants as status
+use Rattle.tv_step_laws.specs.Budgets.{KeepsBudgets}
 use Rattle.tv_structure_form.specs.StructureForm.{StructureForm}
 use Rattle.tv_texts.specs.Agreement.{placeless}
-use Rattle.tv_texts.specs.Files.{IsProgramFile, IsReportFile}
+use Rattle.tv_complete_text.specs.Text.{ReadsAsStructures}
+use Rattle.tv_texts.specs.Files.{IsInitialFile, IsProgramFile, IsReportFile}
 use Rattle.tv_texts.specs.Meaning.{MeansProgram}
 use Rattle.tv_trail.specs.Reasons.{ListsAt}
 use Rattle.tv_work.specs.Analyzed.{KeepAllBudgets}
 use Rattle.tv_work.specs.Reach.{AreMoreThan, IsReached}
-use Rattle.tv_explain.specs.Answers.{FilesMeanSuch, IsUnwritten, compiled_lines}
+use Rattle.tv_explain.specs.Answers.{FilesMeanSuch, IsCompletionOf, IsUnwritten, compiled_lines}
 use Rattle.tv_explain.specs.Call.{Commands}
 use Rattle.tv_explain.specs.Meaning.{FilesMean, IsRefused, drawn_form}
 use Rattle.tv_explain.specs.declared.fault.Ending.{Ending}
 use Rattle.tv_explain.specs.declared.fault.Ending.TheVariants.{As, Lost, Absent, NotWritten as Unwritable}
 use Rattle.tv_explain.specs.declared.fault.Sought.{Sought}
 use Rattle.tv_explain.specs.declared.fault.Sought.TheVariants as sought
+use Rattle.tv_explain.specs.declared.fault.Unwritten.{Unwritten}
 use Rattle.tv_explain.specs.declared.fault.Unwritten.TheVariants as unwritten
 use Rattle.tv_explain.specs.declared.inputs.Inputs.{Inputs}
 use Rattle.tv_explain_text.specs.Texts.{messages_at}
 use Rattle.tv_texts.specs.Sources.{IsSourceText}
+use Rattle.tv_texts.specs.Structures.{IsStructuresText}
 use Rattle.tv_texts.specs.declared.source.SourceText.{SourceText}
+use Rattle.tv_texts.specs.declared.structures.StructuresText.{StructuresText}
 use Rattle.tv_explain_words.specs.Words.{AnalyzedForm, CommandForm, Shows, ListsEdges, TellsMessage}
-use Rattle.tv_explain_words.specs.Words.{TellsStructure, TellsLosses, Compiles, SpellsNothing}
+use Rattle.tv_explain_words.specs.Words.{TellsStructure, TellsLosses, Compiles, TakesStep, TellsPlan}
+use Rattle.tv_explain_words.specs.Words.{TellsCounts, Completes, SpellsNothing}
 
 -- ---- what an analysis is like
 
@@ -42,6 +48,21 @@ pub record KeepsLimits (p : ProgramForm) (mode : Mode) (initial : List Structure
 
 abbrev pub IsWithinLimits : AnalyzedForm → Inputs → Type 0
 IsWithinLimits of inputs = KeepsLimits (drawn_form inputs) of.mode inputs.initial of.max
+
+-- the step of each of the structures along the edge keeps the budgets
+abbrev pub KeepsEach : (edge : ℕ) → Inputs → Type 0
+KeepsEach edge inputs = All (KeepsBudgets (drawn_form inputs) edge) inputs.initial
+
+-- the step of each reached structure does
+abbrev pub KeepsReached : AnalyzedForm → Inputs → Type 0
+KeepsReached of inputs =
+    KeepAllBudgets (drawn_form inputs) (IsReached (drawn_form inputs) of.mode inputs.initial)
+
+-- the command keeps its limits
+abbrev pub KeepsItsLimits : CommandForm → AnalyzedForm → Inputs → Type 0
+KeepsItsLimits (TakesStep asked edge) of inputs = KeepsEach edge inputs
+KeepsItsLimits (TellsCounts asked) of inputs = KeepsReached of inputs
+KeepsItsLimits command of inputs = IsWithinLimits of inputs
 
 -- wherever a node of this name stands, what the analysis lists there is such
 abbrev pub ListsSuch : AnalyzedForm → Inputs → (node : List ℕ) → (List StructureForm → Type 0) → Type 0
@@ -65,6 +86,17 @@ pub record CanBeWritten (source : SourceText) : Type 0 where
   pub fits : length (compiled_lines source) ≤ longest_gathered
   pub means : MeansProgram (compiled_lines source) (Ok source.program)
 
+-- STRUCTURES means structures over PROGRAM
+abbrev pub AreReadTogether : Option Held → (program structures : List ℕ) → Type 0
+AreReadTogether told program structures = (p : Program) × IsProgramFile told program (Ok p)
+    × ((initial : List StructureForm) × IsInitialFile told structures p (Ok initial))
+
+-- the completed file can be written: its text isn't too long, and means the completed structures
+abbrev pub CanBeCompleted : Program → StructuresText → Type 0
+CanBeCompleted p read =
+    (completed : List StructureForm) (text : List ℕ) → IsCompletionOf p read completed text
+    → (length text ≤ longest_gathered) × ReadsAsStructures p.vocab text completed
+
 -- nothing stands in the way of an answer that tells of nothing lost
 abbrev pub CanAnswer : Option Held → CommandForm → Type 0
 CanAnswer told (Shows program report) = (p : Program) × IsProgramFile told program (Ok p)
@@ -78,6 +110,13 @@ CanAnswer told (TellsStructure of node index) = (inputs : Inputs) × FilesMean t
 CanAnswer told (TellsLosses of) = (inputs : Inputs) × FilesMean told of inputs
     × IsWithinLimits of inputs × LosesSuch of inputs AreNone
 CanAnswer told (Compiles source) = (read : SourceText) × IsSourceText told source read × CanBeWritten read
+CanAnswer told (TakesStep of edge) = (inputs : Inputs) × FilesMean told of inputs × KeepsEach edge inputs
+    × (edge < length (drawn_form inputs).edges)
+CanAnswer told (TellsPlan program mode delta) = (p : Program) × IsProgramFile told program (Ok p)
+CanAnswer told (TellsCounts of) = (inputs : Inputs) × FilesMean told of inputs × KeepsReached of inputs
+CanAnswer told (Completes program structures) = AreReadTogether told program structures
+    × ((p : Program) (read : StructuresText) → IsProgramFile told program (Ok p)
+    → IsStructuresText told structures p read → CanBeCompleted p read)
 
 -- it is `losses`, of an analysis that loses something
 abbrev pub LosesSome : Option Held → CommandForm → Type 0
@@ -92,6 +131,11 @@ LacksMessage p edge number sought.Message =
     (edge < length p.edges) × (length (messages_at p edge) ≤ number)
 LacksMessage p edge number other = ⊥
 
+-- the program has no edge of that number
+abbrev pub LacksEdge : ProgramForm → (edge : ℕ) → Sought → Type 0
+LacksEdge p edge sought.Edge = length p.edges ≤ edge
+LacksEdge p edge other = ⊥
+
 -- the program has no node of that name, or what is listed there ends before that place
 abbrev pub LacksStructure : AnalyzedForm → Inputs → (node : List ℕ) → (index : ℕ) → Sought → Type 0
 LacksStructure of inputs node index sought.Node = ¬ Contains (drawn_form inputs).nodes node
@@ -105,7 +149,24 @@ IsAbsent told (TellsMessage of edge number) what = (inputs : Inputs) × FilesMea
     × IsWithinLimits of inputs × LacksMessage (drawn_form inputs) edge number what
 IsAbsent told (TellsStructure of node index) what = (inputs : Inputs) × FilesMean told of inputs
     × IsWithinLimits of inputs × LacksStructure of inputs node index what
+IsAbsent told (TakesStep of edge) what = (inputs : Inputs) × FilesMean told of inputs
+    × LacksEdge (drawn_form inputs) edge what
 IsAbsent told other what = ⊥
+
+-- each completed file is too long, or none means the completed structures, as the reason says
+abbrev pub CannotBeCompleted : Unwritten → Program → StructuresText → Type 0
+CannotBeCompleted unwritten.LongCompletion p read = (completed : List StructureForm) (text : List ℕ)
+    → IsCompletionOf p read completed text → longest_gathered < length text
+CannotBeCompleted unwritten.OtherCompletion p read = (completed : List StructureForm) (text : List ℕ)
+    → IsCompletionOf p read completed text → ¬ ReadsAsStructures p.vocab text completed
+CannotBeCompleted other p read = ⊥
+
+-- what comes of the source program, or of the structures, can't be written
+abbrev pub CannotWrite : Option Held → CommandForm → Unwritten → Type 0
+CannotWrite told (Completes program structures) why = AreReadTogether told program structures
+    × ((p : Program) (read : StructuresText) → IsProgramFile told program (Ok p)
+    → IsStructuresText told structures p read → CannotBeCompleted why p read)
+CannotWrite told other why = IsUnwritten told other why
 
 -- ---- which ending is due
 
@@ -116,17 +177,17 @@ CommandOwes told command (As (status.FileFault role kind)) = IsRefused told comm
 CommandOwes told command (As other) = ⊥
 CommandOwes told command Lost = LosesSome told command
 CommandOwes told command (Absent what) = IsAbsent told command what
-CommandOwes told command (Unwritable why) = IsUnwritten told command why
+CommandOwes told command (Unwritable why) = CannotWrite told command why
 
 -- the words, and the files that tell what they hold, call for this ending
 abbrev pub Owes : List (List ℕ) → Option Held → Ending → Type 0
 Owes words told (As status.Usage) = SpellsNothing words
 Owes words told due = Commands words (λ command. IsSome told × CommandOwes told command due)
 
--- the words spell a command on an analysis that keeps its limits
+-- the words spell a command on an analysis, or on a step, that keeps its limits
 abbrev pub CallsWithinLimits : List (List ℕ) → Option Held → Type 0
 CallsWithinLimits words told =
-    Commands words (λ command. IsSome told × FilesMeanSuch told command IsWithinLimits)
+    Commands words (λ command. IsSome told × FilesMeanSuch told command (KeepsItsLimits command))
 
 -- a limit was passed
 abbrev pub AtLimit : Ending → Type 0
@@ -142,16 +203,16 @@ MayStand (As status.WriteFault) = Unit {0}
 MayStand (As status.Memory) = Unit {0}
 MayStand other = ⊥
 
--- the ending, wherever in a file a fault stands, and whatever keeps a program from being written
-abbrev pub without_place : Ending → Ending
-without_place (As (status.FileFault role kind)) = As (status.FileFault role (placeless kind))
-without_place (Unwritable why) = Unwritable unwritten.TooLong
-without_place other = other
+-- the ending, wherever in a file a fault stands, and whichever of its reasons keeps a text from being written
+abbrev pub without_details : Ending → Ending
+without_details (As (status.FileFault role kind)) = As (status.FileFault role (placeless kind))
+without_details (Unwritable why) = Unwritable unwritten.LongProgram
+without_details other = other
 
 -- the call ends as it is called for, or there is such an excuse
 pub record EndsAsOwed (words : List (List ℕ)) (told : Option Held) (ending : Ending)
     (excuse : Type 0) : Type 0 where
   -- whatever ending is called for, this is the one, places aside
-  pub due : (due : Ending) → Owes words told due → (without_place ending ≡ without_place due) ⊎ excuse
+  pub due : (due : Ending) → Owes words told due → (without_details ending ≡ without_details due) ⊎ excuse
   -- and where an analysis keeps its limits, none is told
   pub within : CallsWithinLimits words told → ¬ AtLimit ending

@@ -19,6 +19,10 @@ use Rattle.tv_explain.specs.declared.fault.Sought.{Sought}
 use Rattle.tv_explain.specs.declared.fault.Sought.TheVariants as sought
 use Rattle.tv_explain.specs.declared.fault.Unwritten.{Unwritten}
 use Rattle.tv_explain.specs.declared.fault.Unwritten.TheVariants as unwritten
+use Rattle.tv_complete_text.specs.declared.error.CompletionError.{CompletionError}
+use Rattle.tv_complete_text.specs.declared.error.CompletionError.TheVariants as completion
+use Rattle.tv_struct.specs.declared.analysis.StageError.{StageError}
+use Rattle.tv_struct.specs.declared.analysis.StageError.TheVariants as stage
 
 -- the fault of a file's text
 abbrev pub fault_of_text : TextFault → Fault
@@ -35,9 +39,21 @@ fault_of_work max work.Memory = Memory
 
 -- the fault of a compiled program that isn't written
 abbrev pub fault_of_writing : CompiledError → Fault
-fault_of_writing compiled.TooLong = NotWritten unwritten.TooLong
-fault_of_writing compiled.Differs = NotWritten unwritten.Differs
+fault_of_writing compiled.TooLong = NotWritten unwritten.LongProgram
+fault_of_writing compiled.Differs = NotWritten unwritten.OtherProgram
 fault_of_writing compiled.Memory = Memory
+
+-- the fault of a completed file that isn't written
+abbrev pub fault_of_completion : CompletionError → Fault
+fault_of_completion completion.TooLong = NotWritten unwritten.LongCompletion
+fault_of_completion completion.Differs = NotWritten unwritten.OtherCompletion
+fault_of_completion completion.Memory = Memory
+
+-- the fault of a step
+abbrev pub fault_of_step : StageError → Fault
+fault_of_step stage.Splits = TooManySplits
+fault_of_step stage.Individuals = TooManyIndividuals
+fault_of_step stage.Memory = Memory
 
 -- the ending of a call whose work ended in this fault
 abbrev pub ending_of : Fault → Ending
@@ -57,7 +73,7 @@ ending_with true = Lost
 ending_with false = As status.Done
 
 -- the exit code of the process: as of `tvla`; a loss ends as a rejected report does, words that name what
--- isn't there as those that spell no command, and a program that isn't written as one that passes a limit
+-- isn't there as those that spell no command, and a text that isn't written as one that passes a limit
 abbrev pub code_of : Ending → ℕ
 code_of (As it) = status_code it
 code_of Lost = 1
@@ -76,6 +92,11 @@ usage_text =
     ++ line (codes "       tvla-explain show PROGRAM REPORT")
     ++ line (codes "       tvla-explain edges PROGRAM")
     ++ line (codes "       tvla-explain compiled SOURCE")
+    ++ line (codes "       tvla-explain step PROGRAM STRUCTURES EDGE [--recompute | --delta]")
+    ++ line (codes "       tvla-explain plan PROGRAM [--recompute | --delta]")
+    ++ line (codes
+    "       tvla-explain counts PROGRAM INITIAL [--max-structures N] [--recompute | --delta]")
+    ++ line (codes "       tvla-explain complete PROGRAM STRUCTURES")
 
 -- what isn't there
 abbrev pub absent_text : Sought → List ℕ
@@ -84,15 +105,19 @@ absent_text sought.Message = teller_line Explainer (codes "no such message")
 absent_text sought.Node = teller_line Explainer (codes "no such node")
 absent_text sought.Structure = teller_line Explainer (codes "no such structure")
 
--- why a compiled program isn't written
+-- why a compiled program or a completed file isn't written
 abbrev pub unwritten_text : Unwritten → List ℕ
-unwritten_text unwritten.TooLong =
+unwritten_text unwritten.LongProgram =
     teller_line Explainer (codes "the compiled program is too long to be written")
-unwritten_text unwritten.Differs =
+unwritten_text unwritten.OtherProgram =
     teller_line Explainer (codes "the compiled program can't be written as a text")
+unwritten_text unwritten.LongCompletion =
+    teller_line Explainer (codes "the completed file is too long to be written")
+unwritten_text unwritten.OtherCompletion =
+    teller_line Explainer (codes "the completed file can't be written as a text")
 
 -- the text that tells an ending to whom called: as of `tvla`, but for the program's name and its commands,
--- what the words name, and compiled programs
+-- what the words name, and texts that aren't written
 abbrev pub text_of : Ending → List ℕ
 text_of (As it) = told_by Explainer usage_text it
 text_of Lost = []

@@ -2,6 +2,7 @@ pub mod Faults
 pub mod Edges
 pub mod Meaning
 pub mod Answers
+pub mod Questions
 pub mod Begins
 pub mod Call
 pub mod Delivery

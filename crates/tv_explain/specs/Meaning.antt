@@ -19,7 +19,8 @@ use Rattle.tv_tree.specs.Forms.{ProgramForm as TreeForm}
 use Rattle.tv_explain.specs.declared.inputs.Drawn.{Drawn}
 use Rattle.tv_explain.specs.declared.inputs.Inputs.{Inputs}
 use Rattle.tv_explain_words.specs.Words.{AnalyzedForm, CommandForm, Shows, ListsEdges, TellsMessage}
-use Rattle.tv_explain_words.specs.Words.{TellsStructure, TellsLosses, Compiles}
+use Rattle.tv_explain_words.specs.Words.{TellsStructure, TellsLosses, Compiles, TakesStep, TellsPlan}
+use Rattle.tv_explain_words.specs.Words.{TellsCounts, Completes}
 
 -- the file of the command's program, or of its source program
 abbrev pub program_name : CommandForm → List ℕ
@@ -29,6 +30,10 @@ program_name (TellsMessage of edge number) = of.program
 program_name (TellsStructure of node index) = of.program
 program_name (TellsLosses of) = of.program
 program_name (Compiles source) = source
+program_name (TakesStep of edge) = of.program
+program_name (TellsPlan program mode delta) = program
+program_name (TellsCounts of) = of.program
+program_name (Completes program structures) = program
 
 -- ---- a program with its edges as they are written
 
@@ -92,6 +97,12 @@ IsRefused told (TellsMessage of edge number) role kind = IsNoAnalysis told of ro
 IsRefused told (TellsStructure of node index) role kind = IsNoAnalysis told of role kind
 IsRefused told (TellsLosses of) role kind = IsNoAnalysis told of role kind
 IsRefused told (Compiles source) role.Source kind = IsSourceFile told source (Err kind)
+IsRefused told (TakesStep of edge) role kind = IsNoAnalysis told of role kind
+IsRefused told (TellsPlan program mode delta) role.Program kind = IsProgramFile told program (Err kind)
+IsRefused told (TellsCounts of) role kind = IsNoAnalysis told of role kind
+IsRefused told (Completes program structures) role.Program kind = IsProgramFile told program (Err kind)
+IsRefused told (Completes program structures) role.Initial kind = (p : Program)
+    × IsProgramFile told program (Ok p) × IsInitialFile told structures p (Err kind)
 IsRefused told command other kind = ⊥
 
 -- PROGRAM isn't there, or a file that it includes and that is come to before any refusal; or it means a
@@ -110,6 +121,11 @@ IsMissing told (TellsMessage of edge number) = LacksInputs told of
 IsMissing told (TellsStructure of node index) = LacksInputs told of
 IsMissing told (TellsLosses of) = LacksInputs told of
 IsMissing told (Compiles source) = ¬ HoldsName told source
+IsMissing told (TakesStep of edge) = LacksInputs told of
+IsMissing told (TellsPlan program mode delta) = LacksFile told program
+IsMissing told (TellsCounts of) = LacksInputs told of
+IsMissing told (Completes program structures) = LacksFile told program
+    ⊎ ((p : Program) × IsProgramFile told program (Ok p) × (¬ HoldsName told structures))
 
 abbrev pub HoldsInputs : Option Held → AnalyzedForm → Type 0
 HoldsInputs told of = (¬ LacksFile told of.program) × HoldsName told of.initial
@@ -122,3 +138,7 @@ HoldsFiles told (TellsMessage of edge number) = HoldsInputs told of
 HoldsFiles told (TellsStructure of node index) = HoldsInputs told of
 HoldsFiles told (TellsLosses of) = HoldsInputs told of
 HoldsFiles told (Compiles source) = HoldsName told source
+HoldsFiles told (TakesStep of edge) = HoldsInputs told of
+HoldsFiles told (TellsPlan program mode delta) = ¬ LacksFile told program
+HoldsFiles told (TellsCounts of) = HoldsInputs told of
+HoldsFiles told (Completes program structures) = (¬ LacksFile told program) × HoldsName told structures

@@ -1,25 +1,35 @@
-//! What is told of a message, of a structure and of losses.
+//! What is told of a message, of a structure, of losses, of steps and of counts.
 
 ghost use Rattle.std.specs.Prelude.{◌≡◌, ◌<◌, ◌^◌, ℕ, Contains, IfErr, IfNone, IfOk, IfSome, Some, codes};
 ghost use Rattle.std.specs.Prelude.{◌++◌, ◌↔◌, IsTrue, length, slice_get};
-ghost use Rattle.tv_model.specs.Program.{message_of};
+ghost use Rattle.std.specs.Prelude.{All, OnOk};
+ghost use Rattle.tv_counts.specs.Counts.{IsCountsText};
+ghost use Rattle.tv_model.specs.Program.{message_of, program_of};
 ghost use Rattle.tv_trail.specs.Over.{IsTrailOver};
-ghost use Rattle.tv_explain.specs.Answers.{IsMessageText, IsStopped, IsStructureText, NamesNothing};
+ghost use Rattle.tv_explain.specs.Answers.{IsMessageText, IsStepText, IsStopped, IsStructureText};
+ghost use Rattle.tv_explain.specs.Answers.{NamesNothing};
 ghost use Rattle.tv_explain.specs.Answers.{TellsOfLosses, trail_lines};
 ghost use Rattle.tv_explain.specs.Meaning.{drawn_form, heads_in};
-ghost use Rattle.tv_explain.specs.Work.{AreReady};
+ghost use Rattle.tv_explain.specs.Questions.{IsTold, command_of};
+ghost use Rattle.tv_explain.specs.Work.{AreReady, GoesOnWithSteps, IsStepsStop};
 ghost use Rattle.tv_explain_text.specs.Texts.{messages_at};
 ghost use Rattle.tv_explain_text.specs.Trails.{raised_line};
 ghost use Rattle.tv_explain_words.specs.Words.{AnalyzedForm, TellsLosses, TellsMessage, TellsStructure};
-ghost use Rattle.tv_explain_words.specs.Words.{analyzed_of};
+ghost use Rattle.tv_explain_words.specs.Words.{TakesStep, TellsCounts, analyzed_of};
+ghost use Rattle.tv_structure_form.specs.StructureForm.{IsOver};
 
-use crate::fault::{Answer, Fault, Sought, fault_of_work};
+use crate::fault::{Answer, Fault, Sought, fault_of_work, plain};
 use crate::inputs::Inputs;
+use crate::question::Question;
 use std::alloc::{AllocError, Global};
+use tv_counts::counts_text;
 use tv_explain_text::{Told, messages_at, raised_text, trail_text};
 use tv_explain_words::Analyzed;
 use tv_losses_text::explain_losses;
 use tv_model::{Bytes, Message};
+use tv_stages::Stager;
+use tv_stages_text::{StageWriter, slow_steps_are_over};
+use tv_struct::Structure;
 use tv_trail::{Raised, trail_to_listed, trail_to_message};
 
 /// The text that no reached structure raises a message.
@@ -77,7 +87,7 @@ fn raised_answer(
 }
 
 /// What is told of the message of this number among those of the edge's action.
-pub fn message_text(
+fn message_text(
     alloc: Global,
     inputs: &Inputs,
     of: &Analyzed,
@@ -132,7 +142,7 @@ fn number_of(names: &[Bytes], name: &str) -> Option<u32>
 }
 
 /// What is told of the structure at this place among those that are listed at the node of this name.
-pub fn structure_text(
+fn structure_text(
     alloc: Global,
     inputs: &Inputs,
     of: &Analyzed,
@@ -164,8 +174,72 @@ pub fn structure_text(
     }
 }
 
+/// Appends the step of each of the structures along the edge, stage by stage.
+fn append_steps(
+    out: &mut Vec<u8>,
+    stager: &mut Stager<'_>,
+    writer: &StageWriter<'_>,
+    edge: u32,
+    structures: &[Structure],
+) -> Result<(), Fault>
+    requires program { writer.now ≡ stager.old.program }
+    requires edge { edge < length stager.old.program.edges }
+    requires over { All (IsOver stager.old.program.vocab) structures.now }
+    ensures steps { OnOk result
+        (GoesOnWithSteps stager.old edge structures.now out.old.items out.new.items) }
+    ensures cause { IfErr result (IsStepsStop (program_of stager.old.program) edge structures.now) }
+{
+    slow_steps_are_over();
+    for number in 0..structures.len() {
+        let s = &structures[number];
+        let step = stager.step(edge, s)?;
+        writer.append_step(out, number, s, &step)?;
+    }
+    Ok(())
+}
+
+/// The step of each of the structures along the edge, stage by stage.
+fn step_answer(alloc: Global, inputs: &Inputs, of: &Analyzed, edge: u32) -> Result<Vec<u8>, Fault>
+    requires { AreReady inputs.now }
+    ensures found { IfOk result
+        (λ text. IsStepText (analyzed_of of.now) inputs.now edge text.items) }
+    ensures cause { IfErr result (IsStopped (TakesStep (analyzed_of of.now) edge)
+        (analyzed_of of.now) inputs.now) }
+{
+    let program = &inputs.drawn.program;
+    if program.edges.len() <= edge as usize {
+        return Err(Fault::NotThere(Sought::Edge));
+    }
+    let mut stager = Stager::new(alloc, program, of.mode)?;
+    let writer = StageWriter::new(alloc, program)?;
+    let mut out = Vec::new(alloc);
+    append_steps(
+        &mut out,
+        &mut stager,
+        &writer,
+        edge,
+        inputs.initial.as_slice(),
+    )?;
+    Ok(out)
+}
+
+/// How many structures the analysis lists at each node.
+fn counts_answer(alloc: Global, inputs: &Inputs, of: &Analyzed) -> Result<Vec<u8>, Fault>
+    requires { AreReady inputs.now }
+    ensures found { IfOk result (λ text. IsCountsText (drawn_form inputs.now) of.now.mode inputs.now.initial
+        of.now.max text.items) }
+    ensures cause { IfErr result
+        (IsStopped (TellsCounts (analyzed_of of.now)) (analyzed_of of.now) inputs.now) }
+{
+    let program = &inputs.drawn.program;
+    match counts_text(alloc, program, &inputs.initial, of.mode, of.max) {
+        Err(error) => Err(fault_of_work(error, of.max)),
+        Ok(text) => Ok(text),
+    }
+}
+
 /// What the analysis loses.
-pub fn losses_answer(alloc: Global, inputs: &Inputs, of: &Analyzed) -> Result<Answer, Fault>
+fn losses_answer(alloc: Global, inputs: &Inputs, of: &Analyzed) -> Result<Answer, Fault>
     requires { AreReady inputs.now }
     ensures found { IfOk result (TellsOfLosses (analyzed_of of.now) inputs.now) }
     ensures cause { IfErr result
@@ -179,5 +253,28 @@ pub fn losses_answer(alloc: Global, inputs: &Inputs, of: &Analyzed) -> Result<An
             text: report.text,
             is_lost: report.is_any,
         }),
+    }
+}
+
+/// The answer to the question, where the files mean these inputs.
+pub fn answer(
+    alloc: Global,
+    inputs: &Inputs,
+    of: &Analyzed,
+    question: &Question<'_>,
+) -> Result<Answer, Fault>
+    requires { AreReady inputs.now }
+    ensures told { IfOk result (IsTold (analyzed_of of.now) inputs.now question.now) }
+    ensures cause { IfErr result
+        (IsStopped (command_of (analyzed_of of.now) question.now) (analyzed_of of.now) inputs.now) }
+{
+    match *question {
+        Question::Message { edge, number } => plain(message_text(alloc, inputs, of, edge, number)),
+        Question::Structure { node, index } => plain(structure_text(
+            alloc, inputs, of, node, index,
+        )),
+        Question::Losses => losses_answer(alloc, inputs, of),
+        Question::Step { edge } => plain(step_answer(alloc, inputs, of, edge)),
+        Question::Counts => plain(counts_answer(alloc, inputs, of)),
     }
 }

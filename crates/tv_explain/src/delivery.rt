@@ -18,6 +18,10 @@ const USAGE: &[u8] =
        tvla-explain show PROGRAM REPORT
        tvla-explain edges PROGRAM
        tvla-explain compiled SOURCE
+       tvla-explain step PROGRAM STRUCTURES EDGE [--recompute | --delta]
+       tvla-explain plan PROGRAM [--recompute | --delta]
+       tvla-explain counts PROGRAM INITIAL [--max-structures N] [--recompute | --delta]
+       tvla-explain complete PROGRAM STRUCTURES
 ";
 
 /// Gives the text that tells what isn't there to the sink; takes no memory.
@@ -38,7 +42,7 @@ fn write_absent<E: Sink>(err: &mut E, what: Sought) -> Result<(), Failed>
     }
 }
 
-/// Gives the text that tells why a compiled program isn't written to the sink; takes no memory.
+/// Gives the text that tells why a text isn't written to the sink; takes no memory.
 fn write_unwritten<E: Sink>(err: &mut E, why: Unwritten) -> Result<(), Failed>
     ensures all { OnOk result (E.taken err.new ≡ appended (E.taken err.old) (unwritten_text why)) }
     ensures failed { OnErr result (Rose (E.faults err.old) (E.faults err.new)) }
@@ -49,18 +53,32 @@ fn write_unwritten<E: Sink>(err: &mut E, why: Unwritten) -> Result<(), Failed>
     ensures count { E.faults err.old ≤ E.faults err.new }
 {
     match why {
-        Unwritten::TooLong => {
+        Unwritten::LongProgram => {
             write_line(
                 err,
                 Teller::Explainer,
                 b"the compiled program is too long to be written",
             )
         }
-        Unwritten::Differs => {
+        Unwritten::OtherProgram => {
             write_line(
                 err,
                 Teller::Explainer,
                 b"the compiled program can't be written as a text",
+            )
+        }
+        Unwritten::LongCompletion => {
+            write_line(
+                err,
+                Teller::Explainer,
+                b"the completed file is too long to be written",
+            )
+        }
+        Unwritten::OtherCompletion => {
+            write_line(
+                err,
+                Teller::Explainer,
+                b"the completed file can't be written as a text",
             )
         }
     }

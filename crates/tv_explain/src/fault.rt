@@ -2,13 +2,15 @@
 
 ghost use Rattle.std.specs.Prelude.{◌≡◌};
 ghost use Rattle.tv_explain.specs.Faults.{code_of, ending_of, ending_with, fault_of_text, fault_of_work};
-ghost use Rattle.tv_explain.specs.Faults.{fault_of_writing};
+ghost use Rattle.tv_explain.specs.Faults.{fault_of_completion, fault_of_step, fault_of_writing};
 ghost use Rattle.tv_explain.specs.Work.{plain};
 ghost use Rattle.tv_explain.specs.declared.fault.Fault.TheVariants.{Memory};
 
 use std::alloc::AllocError;
 use tv_compiled::CompiledError;
+use tv_complete_text::CompletionError;
 use tv_status::{FileKind, Role, Status};
+use tv_struct::StageError;
 use tv_texts::TextFault;
 use tv_work::WorkError;
 
@@ -43,13 +45,17 @@ pub fn plain(found: Result<Vec<u8>, Fault>) -> Result<Answer, Fault>
     })
 }
 
-/// Why a compiled program isn't written.
+/// Why a compiled program or a completed file isn't written.
 #[derive(Clone, Copy, Debug, PartialEq, Eq)]
 pub enum Unwritten {
-    /// Its text has more bytes than a file may have that is read as a program.
-    TooLong,
-    /// Its text doesn't mean it.
-    Differs,
+    /// The program's text has more bytes than a file may have that is read as a program.
+    LongProgram,
+    /// The program's text doesn't mean it.
+    OtherProgram,
+    /// The completed file has more bytes than a file may have that is read as structures.
+    LongCompletion,
+    /// The completed file doesn't mean the completed structures.
+    OtherCompletion,
 }
 
 /// Why the work gave no answer.
@@ -67,7 +73,7 @@ pub enum Fault {
     TooManyIndividuals,
     /// What the words name isn't there.
     NotThere(Sought),
-    /// A compiled program isn't written.
+    /// A compiled program or a completed file isn't written.
     NotWritten(Unwritten),
     /// A file could not be read.
     ReadFault,
@@ -84,7 +90,7 @@ pub enum Ending {
     Lost,
     /// What the words name isn't there.
     Absent(Sought),
-    /// A compiled program isn't written.
+    /// A compiled program or a completed file isn't written.
     NotWritten(Unwritten),
 }
 
@@ -101,7 +107,7 @@ impl Ending {
     }
 
     /// The exit code of the process: that of `tvla`'s status; 1 where something is lost, 2 where the words
-    /// name what isn't there, 4 where a compiled program isn't written.
+    /// name what isn't there, 4 where a text isn't written.
     pub fn code(&self) -> u8
         ensures { result ≡ code_of self.now }
     {
@@ -164,13 +170,37 @@ impl From<TextFault> for Fault {
     }
 }
 
+impl From<StageError> for Fault {
+    ghost from_gives = { λ error fault. fault ≡ fault_of_step error };
+
+    fn from(error: StageError) -> Fault {
+        match error {
+            StageError::Splits => Fault::TooManySplits,
+            StageError::Individuals => Fault::TooManyIndividuals,
+            StageError::Memory => Fault::Memory,
+        }
+    }
+}
+
+impl From<CompletionError> for Fault {
+    ghost from_gives = { λ error fault. fault ≡ fault_of_completion error };
+
+    fn from(error: CompletionError) -> Fault {
+        match error {
+            CompletionError::TooLong => Fault::NotWritten(Unwritten::LongCompletion),
+            CompletionError::Differs => Fault::NotWritten(Unwritten::OtherCompletion),
+            CompletionError::Memory => Fault::Memory,
+        }
+    }
+}
+
 impl From<CompiledError> for Fault {
     ghost from_gives = { λ error fault. fault ≡ fault_of_writing error };
 
     fn from(error: CompiledError) -> Fault {
         match error {
-            CompiledError::TooLong => Fault::NotWritten(Unwritten::TooLong),
-            CompiledError::Differs => Fault::NotWritten(Unwritten::Differs),
+            CompiledError::TooLong => Fault::NotWritten(Unwritten::LongProgram),
+            CompiledError::Differs => Fault::NotWritten(Unwritten::OtherProgram),
             CompiledError::Memory => Fault::Memory,
         }
     }

@@ -103,7 +103,7 @@ fn taken(alloc: Global, read: Drawn, delta: bool) -> Result<Drawn, TextFault>
 }
 
 /// The program that the named file means, with its heads; with `delta`, what differencing makes of it.
-fn load_taken<F: Files>(
+pub fn load_taken<F: Files>(
     alloc: Global,
     files: &mut F,
     name: &str,

@@ -17,6 +17,8 @@ mod delivery;
 mod fault;
 mod inputs;
 mod laws;
+mod question;
+mod views;
 mod work;
 
 pub use fault::{Ending, Sought, Unwritten};
@@ -31,10 +33,10 @@ use tv_texts::one_meaning_each;
 /// Does all that the program does: `words` are the words after its name.
 ///
 /// The work is done in this order: the words are read; PROGRAM is gathered and understood, or for `compiled`
-/// SOURCE is read and compiled; for `show` REPORT is read and understood, for `message`, `structure` and
-/// `losses` INITIAL; what the words name is looked for, and the analysis runs; the text is put together and
-/// given to `out` whole. The first fault ends the call, and its text is given to `err`. Where the text tells
-/// of a loss the call ends as `Lost`.
+/// SOURCE is read and compiled; for `show` REPORT is read and understood, for `message`, `structure`,
+/// `losses` and `counts` INITIAL, for `step` and `complete` STRUCTURES; what the words name is looked for,
+/// and the analysis or the steps run; the text is put together and given to `out` whole. The first fault ends
+/// the call, and its text is given to `err`. Where the text tells of a loss the call ends as `Lost`.
 pub fn explain<F: Files, O: Sink, E: Sink>(
     alloc: Global,
     words: &[String],

@@ -5,13 +5,16 @@ ghost use Rattle.tv_outside.specs.Count.{Rose};
 ghost use Rattle.tv_explain.specs.Call.{Commands, IsAnswerTo, IsCause, IsCommandCause, UnlessReadFault};
 ghost use Rattle.tv_explain.specs.Begins.{FewBegins, BeginsFor, BeginsNoMore};
 ghost use Rattle.tv_explain.specs.Answers.{IsAnswer, IsText};
-ghost use Rattle.tv_explain_words.specs.Words.{Shows, ListsEdges, Compiles, SpellsNothing, TellsLosses};
-ghost use Rattle.tv_explain_words.specs.Words.{TellsMessage, TellsStructure, analyzed_of, form_of};
+ghost use Rattle.tv_explain.specs.Questions.{command_of};
+ghost use Rattle.tv_explain_words.specs.Words.{Shows, ListsEdges, Compiles, SpellsNothing};
+ghost use Rattle.tv_explain_words.specs.Words.{analyzed_of, form_of};
 ghost use Rattle.tv_words.specs.Words.{words_of};
 
-use crate::answers::{losses_answer, message_text, structure_text};
+use crate::answers::answer;
 use crate::fault::{Answer, Fault, plain};
 use crate::inputs::{load_drawn, load_inputs};
+use crate::question::Question;
+use crate::views::{complete, plan};
 use std::alloc::Global;
 use tv_compiled::compiled_text;
 use tv_compiled_laws::compiled_texts_are_programs;
@@ -66,77 +69,30 @@ fn edges<F: Files>(alloc: Global, files: &mut F, program: &str) -> Result<Vec<u8
     Ok(edges_text(alloc, &drawn.program, &drawn.heads)?)
 }
 
-/// A shortest abstract run to the message of this number among those of the edge's action.
+/// The answer to a question on an analysis, whose files are read.
 #[tactic(auto, using(crate::proofs::Causes::holds_unless))]
-fn message<F: Files>(
+fn ask<F: Files>(
     alloc: Global,
     files: &mut F,
     of: &Analyzed,
-    edge: u32,
-    number: u32,
-) -> Result<Vec<u8>, Fault>
-    ensures found { IfOk result (λ text. IsText (F.holds files.old)
-        (TellsMessage (analyzed_of of.now) edge number) text.items) }
+    question: &Question<'_>,
+) -> Result<Answer, Fault>
+    ensures found { IfOk result
+        (IsAnswer (F.holds files.old) (command_of (analyzed_of of.now) question.now)) }
     ensures cause { IfErr result (IsCommandCause (F.holds files.old)
-        (TellsMessage (analyzed_of of.now) edge number)
+        (command_of (analyzed_of of.now) question.now)
         (Rose (F.faults files.old) (F.faults files.new)) (F.steady files.old)) }
     ensures holds { F.holds files.new ≡ F.holds files.old }
     ensures begins { OnOk result (BeginsFor (F.holds files.old) (F.begins files.old) (F.begins files.new)
-        (TellsMessage (analyzed_of of.now) edge number)) }
+        (command_of (analyzed_of of.now) question.now)) }
     ensures most { FewBegins (F.holds files.old) (F.begins files.old) (F.begins files.new)
-        (TellsMessage (analyzed_of of.now) edge number) }
+        (command_of (analyzed_of of.now) question.now) }
     ensures count { F.faults files.old ≤ F.faults files.new }
     ensures steady { F.steady files.old → UnlessReadFault result (F.steady files.new
         × (F.faults files.new ≡ F.faults files.old)) }
 {
     let inputs = load_inputs(alloc, files, of)?;
-    message_text(alloc, &inputs, of, edge, number)
-}
-
-/// A shortest abstract run to the structure at this place among those that are listed at the node.
-#[tactic(auto, using(crate::proofs::Causes::holds_unless))]
-fn structure<F: Files>(
-    alloc: Global,
-    files: &mut F,
-    of: &Analyzed,
-    node: &str,
-    index: u32,
-) -> Result<Vec<u8>, Fault>
-    ensures found { IfOk result (λ text. IsText (F.holds files.old)
-        (TellsStructure (analyzed_of of.now) node.now index) text.items) }
-    ensures cause { IfErr result (IsCommandCause (F.holds files.old)
-        (TellsStructure (analyzed_of of.now) node.now index)
-        (Rose (F.faults files.old) (F.faults files.new)) (F.steady files.old)) }
-    ensures holds { F.holds files.new ≡ F.holds files.old }
-    ensures begins { OnOk result (BeginsFor (F.holds files.old) (F.begins files.old) (F.begins files.new)
-        (TellsStructure (analyzed_of of.now) node.now index)) }
-    ensures most { FewBegins (F.holds files.old) (F.begins files.old) (F.begins files.new)
-        (TellsStructure (analyzed_of of.now) node.now index) }
-    ensures count { F.faults files.old ≤ F.faults files.new }
-    ensures steady { F.steady files.old → UnlessReadFault result (F.steady files.new
-        × (F.faults files.new ≡ F.faults files.old)) }
-{
-    let inputs = load_inputs(alloc, files, of)?;
-    structure_text(alloc, &inputs, of, node, index)
-}
-
-/// What the analysis loses.
-#[tactic(auto, using(crate::proofs::Causes::holds_unless))]
-fn losses<F: Files>(alloc: Global, files: &mut F, of: &Analyzed) -> Result<Answer, Fault>
-    ensures found { IfOk result (IsAnswer (F.holds files.old) (TellsLosses (analyzed_of of.now))) }
-    ensures cause { IfErr result (IsCommandCause (F.holds files.old) (TellsLosses (analyzed_of of.now))
-        (Rose (F.faults files.old) (F.faults files.new)) (F.steady files.old)) }
-    ensures holds { F.holds files.new ≡ F.holds files.old }
-    ensures begins { OnOk result (BeginsFor (F.holds files.old) (F.begins files.old) (F.begins files.new)
-        (TellsLosses (analyzed_of of.now))) }
-    ensures most { FewBegins (F.holds files.old) (F.begins files.old) (F.begins files.new)
-        (TellsLosses (analyzed_of of.now)) }
-    ensures count { F.faults files.old ≤ F.faults files.new }
-    ensures steady { F.steady files.old → UnlessReadFault result (F.steady files.new
-        × (F.faults files.new ≡ F.faults files.old)) }
-{
-    let inputs = load_inputs(alloc, files, of)?;
-    losses_answer(alloc, &inputs, of)
+    answer(alloc, &inputs, of, question)
 }
 
 /// The program that the source program of the named file is compiled to.
@@ -177,10 +133,27 @@ fn execute<F: Files>(alloc: Global, files: &mut F, command: &Command) -> Result<
     match command {
         Command::Show { program, report } => plain(show(alloc, files, program, report)),
         Command::Edges { program } => plain(edges(alloc, files, program)),
-        Command::Message { of, edge, number } => plain(message(alloc, files, of, *edge, *number)),
-        Command::Structure { of, node, index } => plain(structure(alloc, files, of, node, *index)),
-        Command::Losses { of } => losses(alloc, files, of),
+        Command::Message { of, edge, number } => {
+            let (edge, number) = (*edge, *number);
+            ask(alloc, files, of, &Question::Message { edge, number })
+        }
+        Command::Structure { of, node, index } => {
+            let index = *index;
+            ask(alloc, files, of, &Question::Structure { node, index })
+        }
+        Command::Losses { of } => ask(alloc, files, of, &Question::Losses),
         Command::Compiled { source } => plain(compiled(alloc, files, source)),
+        Command::Step { of, edge } => ask(alloc, files, of, &Question::Step { edge: *edge }),
+        Command::Plan {
+            program,
+            mode,
+            delta,
+        } => plain(plan(alloc, files, program, *mode, *delta)),
+        Command::Counts { of } => ask(alloc, files, of, &Question::Counts),
+        Command::Complete {
+            program,
+            structures,
+        } => plain(complete(alloc, files, program, structures)),
     }
 }
 

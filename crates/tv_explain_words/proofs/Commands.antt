@@ -12,7 +12,7 @@ use Rattle.tv_words.proofs.Commands.{AreAlike, turned, same_flags, same_max, one
 use Rattle.tv_words.proofs.Commands.{one_bool, one_max, operand}
 use Rattle.tv_explain_words.specs.Words.{AnalyzedForm, CommandForm, Shows, ListsEdges, TellsMessage}
 use Rattle.tv_explain_words.specs.Words.{TellsStructure, TellsLosses, Compiles, HasOptions, IsNumber}
-use Rattle.tv_explain_words.specs.Words.{IsPlain, Says}
+use Rattle.tv_explain_words.specs.Words.{TakesStep, TellsPlan, TellsCounts, Completes, IsPlain, Says}
 use Rattle.tv_explain_words.specs.Words.{IsSaid, NoneSaid, Spells, SpellsNothing, command_word, form_of}
 use Rattle.tv_explain_words.specs.declared.words.Command.{Command}
 
@@ -33,6 +33,12 @@ module _ (a b : LineForm) (alike : AreAlike a b) where
   same_said (TellsStructure of node index) h = (h.0, sym alike.operands ∙ h.1, same_options of h.2, h.3)
   same_said (TellsLosses of) h = (sym alike.operands ∙ h.0, same_options of h.1)
   same_said (Compiles source) h = (sym alike.operands ∙ h.0, same_plain h.1)
+  same_said (TakesStep of edge) h =
+      (h.0, sym alike.operands ∙ h.1, same_options of h.2, sym alike.max ∙ h.3, h.4)
+  same_said (TellsPlan program mode delta) h =
+      (sym alike.operands ∙ h.0, same_flags a b alike mode delta false h.1, sym alike.max ∙ h.2)
+  same_said (TellsCounts of) h = (sym alike.operands ∙ h.0, same_options of h.1)
+  same_said (Completes program structures) h = (sym alike.operands ∙ h.0, same_plain h.1)
 
 -- ---- what stands on the words
 
@@ -106,8 +112,11 @@ one_asked line a b programs initials x y =
 abbrev first_byte : List ℕ → ℕ
 first_byte word = slice_index_or word 0 0
 
-abbrev second_byte : List ℕ → ℕ
-second_byte word = slice_index_or word 1 0
+abbrev third_byte : List ℕ → ℕ
+third_byte word = slice_index_or word 2 0
+
+abbrev fifth_byte : List ℕ → ℕ
+fifth_byte word = slice_index_or word 4 0
 
 one_said : (line : LineForm) (a b : CommandForm) → command_word a ≡ command_word b → Says line a → Says line b
     → a ≡ b
@@ -136,7 +145,24 @@ one_said line (TellsLosses of) (TellsLosses of') named a b =
 one_said line (Compiles source) (Compiles source') named a b =
     let names : source ∷ [] ≡ source' ∷ [] = sym a.0 ∙ b.0 in
     λ i. Compiles (operand 0 (names i))
-one_said line a b named x y = absurd (omega (arith, ap first_byte named, ap second_byte named))
+one_said line (TakesStep of edge) (TakesStep of' edge') named a b =
+    let names : of.program ∷ of.initial ∷ a.0 ∷ [] ≡ of'.program ∷ of'.initial ∷ b.0 ∷ [] = sym a.1 ∙ b.1 in
+    let same = one_asked line of of' (ap (operand 0) names) (ap (operand 1) names) a.2 b.2 in
+    let edges = one_number a.0 b.0 edge edge' (ap (operand 2) names) a.4 b.4 in
+    λ i. TakesStep (same i) (edges i)
+one_said line (TellsPlan program mode delta) (TellsPlan program' mode' delta') named a b =
+    let names : program ∷ [] ≡ program' ∷ [] = sym a.0 ∙ b.0 in
+    let modes = one_mode mode mode' (sym a.1.0.0 ∙ b.1.0.0) in
+    let deltas = one_bool delta delta' (sym a.1.0.1 ∙ b.1.0.1) in
+    λ i. TellsPlan (operand 0 (names i)) (modes i) (deltas i)
+one_said line (TellsCounts of) (TellsCounts of') named a b =
+    let names : of.program ∷ of.initial ∷ [] ≡ of'.program ∷ of'.initial ∷ [] = sym a.0 ∙ b.0 in
+    ap TellsCounts (one_asked line of of' (ap (operand 0) names) (ap (operand 1) names) a.1 b.1)
+one_said line (Completes program structures) (Completes program' structures') named a b =
+    let names : program ∷ structures ∷ [] ≡ program' ∷ structures' ∷ [] = sym a.0 ∙ b.0 in
+    λ i. Completes (operand 0 (names i)) (operand 1 (names i))
+one_said line a b named x y =
+    absurd (omega (arith, ap first_byte named, ap third_byte named, ap fifth_byte named))
 
 pub one_spelled : (words : List (List ℕ)) (a b : CommandForm) → Spells words a → Spells words b → a ≡ b
 one_spelled words a b (rest, e, h) (rest', f, k) =

@@ -7,7 +7,7 @@ use Rattle.tv_words.specs.Words.{HasFlags, IsMax, LineForm, StandsOn}
 use Rattle.tv_explain_words.specs.declared.words.Analyzed.{Analyzed}
 use Rattle.tv_explain_words.specs.declared.words.Command.{Command}
 use Rattle.tv_explain_words.specs.declared.words.Command.TheVariants.{Show, Edges, Message, Structure, Losses}
-use Rattle.tv_explain_words.specs.declared.words.Command.TheVariants.{Compiled}
+use Rattle.tv_explain_words.specs.declared.words.Command.TheVariants.{Compiled, Step, Plan, Counts, Complete}
 
 -- what an analysis is asked, its files named by bytes: as for `tvla analyze`
 pub record AnalyzedForm : Type 0 where
@@ -34,6 +34,10 @@ pub data CommandForm : Type 0 where
   TellsStructure : (of : AnalyzedForm) → (node : List ℕ) → (index : ℕ) → CommandForm
   TellsLosses : (of : AnalyzedForm) → CommandForm
   Compiles : (source : List ℕ) → CommandForm
+  TakesStep : (of : AnalyzedForm) → (edge : ℕ) → CommandForm
+  TellsPlan : (program : List ℕ) → (mode : Mode) → (delta : Bool) → CommandForm
+  TellsCounts : (of : AnalyzedForm) → CommandForm
+  Completes : (program structures : List ℕ) → CommandForm
 
 abbrev pub form_of : Command → CommandForm
 form_of (Show program report) = Shows (string_bytes program) (string_bytes report)
@@ -42,6 +46,10 @@ form_of (Message of edge number) = TellsMessage (analyzed_of of) edge number
 form_of (Structure of node index) = TellsStructure (analyzed_of of) (string_bytes node) index
 form_of (Losses of) = TellsLosses (analyzed_of of)
 form_of (Compiled source) = Compiles (string_bytes source)
+form_of (Step of edge) = TakesStep (analyzed_of of) edge
+form_of (Plan program mode delta) = TellsPlan (string_bytes program) mode delta
+form_of (Counts of) = TellsCounts (analyzed_of of)
+form_of (Complete program structures) = Completes (string_bytes program) (string_bytes structures)
 
 -- this is said of the command
 abbrev pub SaidOf : (CommandForm → Type 0) → Command → Type 0
@@ -55,6 +63,10 @@ command_word (TellsMessage of edge number) = codes "message"
 command_word (TellsStructure of node index) = codes "structure"
 command_word (TellsLosses of) = codes "losses"
 command_word (Compiles source) = codes "compiled"
+command_word (TakesStep of edge) = codes "step"
+command_word (TellsPlan program mode delta) = codes "plan"
+command_word (TellsCounts of) = codes "counts"
+command_word (Completes program structures) = codes "complete"
 
 -- the word is this number, without sign or leading zero
 abbrev pub IsNumber : (word : List ℕ) → (number : ℕ) → Type 0
@@ -80,6 +92,12 @@ Says line (TellsStructure of node index) = (n : List ℕ)
     × (line.operands ≡ of.program ∷ of.initial ∷ node ∷ n ∷ []) × HasOptions line of × IsNumber n index
 Says line (TellsLosses of) = (line.operands ≡ of.program ∷ of.initial ∷ []) × HasOptions line of
 Says line (Compiles source) = (line.operands ≡ source ∷ []) × IsPlain line
+Says line (TakesStep of edge) = (e : List ℕ) × (line.operands ≡ of.program ∷ of.initial ∷ e ∷ [])
+    × HasOptions line of × (line.max ≡ []) × IsNumber e edge
+Says line (TellsPlan program mode delta) = (line.operands ≡ program ∷ []) × HasFlags line mode delta false
+    × (line.max ≡ [])
+Says line (TellsCounts of) = (line.operands ≡ of.program ∷ of.initial ∷ []) × HasOptions line of
+Says line (Completes program structures) = (line.operands ≡ program ∷ structures ∷ []) × IsPlain line
 
 -- a line that stands on the words says the command
 pub record IsRest (words : List (List ℕ)) (command : CommandForm) : Type 0 where

@@ -1,7 +1,7 @@
 //! The words after the program's name.
 
-ghost use Rattle.std.specs.Prelude.{◌≡◌, ℕ, IfOk, IfSome, IfNone, codes};
-ghost use Rattle.tv_words.specs.Setup.{line_in};
+ghost use Rattle.std.specs.Prelude.{◌≡◌, ℕ, List, [], ◌∷◌, IfOk, IfSome, IfNone, codes};
+ghost use Rattle.tv_words.specs.Setup.{line_in, told_texts};
 ghost use Rattle.tv_words.specs.Words.{words_of};
 ghost use Rattle.tv_explain_words.specs.Words.{IsNumber, IsSaid, NoneSaid, Spells, SpellsNothing, SaidOf};
 ghost use Rattle.tv_explain_words.specs.Words.{AsksNothing, IsAsked, analyzed_of};
@@ -58,6 +58,27 @@ pub enum Command {
     Compiled {
         source: String,
     },
+    /// Writes one abstract step of each structure of a file along the edge of this number, stage by stage.
+    /// The file stands in the place of the initial structures, and `max` is that of words that don't say it.
+    Step {
+        of: Analyzed,
+        edge: u32,
+    },
+    /// Writes what each action does to each defined predicate; `mode` and `delta` are as for an analysis.
+    Plan {
+        program: String,
+        mode: Mode,
+        delta: bool,
+    },
+    /// Writes how many structures the analysis lists at each node.
+    Counts {
+        of: Analyzed,
+    },
+    /// Writes a file of structures with the values of the defined predicates that they don't name.
+    Complete {
+        program: String,
+        structures: String,
+    },
 }
 
 /// The number that the word is, without sign or leading zero.
@@ -73,6 +94,17 @@ fn number(word: &str) -> Option<u32>
         Some(number)
     } else {
         None
+    }
+}
+
+/// The operands, where there are exactly three.
+fn three<'a>(operands: Option<&[&'a str]>) -> Option<(&'a str, &'a str, &'a str)>
+    ensures some { IfSome result (λ w. told_texts operands.entry ≡ w.0.now ∷ w.1.now ∷ w.2.now ∷ []) }
+    ensures none { IfNone result ((a b c : List ℕ) → ¬ (told_texts operands.entry ≡ a ∷ b ∷ c ∷ [])) }
+{
+    match operands {
+        Some([first, second, third]) => Some((first, second, third)),
+        _ => None,
     }
 }
 
@@ -212,6 +244,79 @@ fn compiled(alloc: Global, line: &Line<'_, '_>) -> Result<Option<Command>, Alloc
     }))
 }
 
+/// The command of the name `step` that the line says.
+fn step(alloc: Global, line: &Line<'_, '_>) -> Result<Option<Command>, AllocError>
+    ensures some { IfOk result (λ found. IfSome found (SaidOf (IsSaid (codes "step") (line_in line.now)))) }
+    ensures none { IfOk result (λ found. IfNone found (NoneSaid (codes "step") (line_in line.now))) }
+{
+    let Some((program, structures, edge)) = three(line.operands) else {
+        return Ok(None);
+    };
+    let Some(edge) = number(edge) else {
+        return Ok(None);
+    };
+    if has_values(line.max) {
+        return Ok(None);
+    }
+    let Some(of) = asked(alloc, line, program, structures)? else {
+        return Ok(None);
+    };
+    Ok(Some(Command::Step { of, edge }))
+}
+
+/// The command of the name `plan` that the line says.
+fn plan(alloc: Global, line: &Line<'_, '_>) -> Result<Option<Command>, AllocError>
+    ensures some { IfOk result (λ found. IfSome found (SaidOf (IsSaid (codes "plan") (line_in line.now)))) }
+    ensures none { IfOk result (λ found. IfNone found (NoneSaid (codes "plan") (line_in line.now))) }
+{
+    let Some(program) = one(line.operands) else {
+        return Ok(None);
+    };
+    let Some((mode, delta)) = updating(line.recompute, line.delta) else {
+        return Ok(None);
+    };
+    if line.maps != 0 || has_values(line.max) {
+        return Ok(None);
+    }
+    Ok(Some(Command::Plan {
+        program: String::from_str(alloc, program)?,
+        mode,
+        delta,
+    }))
+}
+
+/// The command of the name `counts` that the line says.
+fn counts(alloc: Global, line: &Line<'_, '_>) -> Result<Option<Command>, AllocError>
+    ensures some { IfOk result (λ found. IfSome found (SaidOf (IsSaid (codes "counts") (line_in line.now)))) }
+    ensures none { IfOk result (λ found. IfNone found (NoneSaid (codes "counts") (line_in line.now))) }
+{
+    let Some((program, initial)) = two(line.operands) else {
+        return Ok(None);
+    };
+    match asked(alloc, line, program, initial)? {
+        Some(of) => Ok(Some(Command::Counts { of })),
+        None => Ok(None),
+    }
+}
+
+/// The command of the name `complete` that the line says.
+fn complete(alloc: Global, line: &Line<'_, '_>) -> Result<Option<Command>, AllocError>
+    ensures some { IfOk result
+        (λ found. IfSome found (SaidOf (IsSaid (codes "complete") (line_in line.now)))) }
+    ensures none { IfOk result (λ found. IfNone found (NoneSaid (codes "complete") (line_in line.now))) }
+{
+    let Some((program, structures)) = two(line.operands) else {
+        return Ok(None);
+    };
+    if !has_no_flags(line) || has_values(line.max) {
+        return Ok(None);
+    }
+    Ok(Some(Command::Complete {
+        program: String::from_str(alloc, program)?,
+        structures: String::from_str(alloc, structures)?,
+    }))
+}
+
 /// The command of that name that the line says.
 fn said(alloc: Global, name: &str, line: &Line<'_, '_>) -> Result<Option<Command>, AllocError>
     ensures some { IfOk result (λ found. IfSome found (SaidOf (IsSaid name.now (line_in line.now)))) }
@@ -224,6 +329,10 @@ fn said(alloc: Global, name: &str, line: &Line<'_, '_>) -> Result<Option<Command
         "structure" => structure(alloc, line),
         "losses" => losses(alloc, line),
         "compiled" => compiled(alloc, line),
+        "step" => step(alloc, line),
+        "plan" => plan(alloc, line),
+        "counts" => counts(alloc, line),
+        "complete" => complete(alloc, line),
         _ => Ok(None),
     }
 }

@@ -1,5 +1,6 @@
 -- The two ways to make an unknown value definite.
-use Rattle.std.proofs.Common.{ℕ, ◌≡◌, ◌≢◌, ◌∙◌, ◌⊎◌, List, [], ◌∷◌, AllPairs, Contains, inl, inr, refl, sym, subst}
+use Rattle.std.proofs.Common.{ℕ, ◌≡◌, ◌≢◌, ◌∙◌, ◌⊎◌, List, [], ◌∷◌, AllPairs, Contains, inl, inr, refl, sym}
+use Rattle.std.proofs.Common.{subst}
 use Rattle.std.proofs.Common.{⊎_elim}
 use Rattle.std.proofs.lemmas.List.Elements.{All-nil}
 use Rattle.tv_kleene.specs.declared.K3.{K3}
@@ -9,7 +10,8 @@ use Rattle.tv_model.proofs.Lists.{Contains-here, Contains-cases, Contains-none}
 use Rattle.tv_embedding_laws.specs.Embedding.{IsHeapOf}
 use Rattle.tv_focus_laws.proofs.Writes.{IsStructure-with_value}
 use Rattle.tv_structure_form.specs.Laws.{WritesOneEntry}
-use Rattle.tv_structure_form.specs.StructureForm.{StructureForm, IsStructure, structure_of, table_of, with_value}
+use Rattle.tv_structure_form.specs.StructureForm.{StructureForm, IsStructure, structure_of, table_of}
+use Rattle.tv_structure_form.specs.StructureForm.{with_value}
 use Rattle.tv_structure_form.specs.TableForm.{HasEntry}
 use Rattle.tv_structure_form.proofs.StructureLaws.{writes_one_entry}
 use Rattle.tv_start_laws.specs.Starts.{FitsBelow, KeepsStructure, IsSetTo}

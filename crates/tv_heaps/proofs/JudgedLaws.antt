@@ -1,5 +1,6 @@
 -- What a heap is judged to be.
-use Rattle.std.proofs.Common.{ℕ, List, ◌≡◌, ◌↔◌, ◌∙◌, Bool, true, false, IsTrue, Option, None, Some, map, refl, sym}
+use Rattle.std.proofs.Common.{ℕ, List, ◌≡◌, ◌↔◌, ◌∙◌, Bool, true, false, IsTrue, Option, None, Some, map}
+use Rattle.std.proofs.Common.{refl, sym}
 use Rattle.std.specs.Prelude.{is_some, not, IfSome, IfNone}
 use Rattle.std.specs.Option.{option_map}
 use Rattle.std.proofs.lemmas.Bool.{false≢true}
@@ -18,7 +19,8 @@ use Rattle.tv_replay_laws.specs.Judged.{IsFirst, IsAsDefined}
 use Rattle.tv_replay_laws.specs.JudgedRules.{IsFirstUnmet, judged_rules}
 use Rattle.tv_replay_laws.proofs.JudgedRules.{judged_are_all}
 use Rattle.tv_replay_laws.proofs.Named.{embeds-heap}
-use Rattle.tv_structure_form.specs.StructureForm.{StructureForm, IsStructure, IsOver, arities_of, structure_of}
+use Rattle.tv_structure_form.specs.StructureForm.{StructureForm, IsStructure, IsOver, arities_of}
+use Rattle.tv_structure_form.specs.StructureForm.{structure_of}
 use Rattle.tv_two_valued.specs.Laws.{IsOfProgram}
 use Rattle.tv_two_valued.specs.TwoValued.{IsTwoValued, heap_of}
 use Rattle.tv_two_valued.proofs.Heaps.{heap-of_program}

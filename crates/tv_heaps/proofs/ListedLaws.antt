@@ -1,5 +1,6 @@
 -- What is listed while structures are looked at.
-use Rattle.std.proofs.Common.{ℕ, ◌≡◌, ◌≢◌, ◌<◌, ◌≤◌, ◌⊎◌, List, [], ◌∷◌, ◌++◌, map, length, Option, None, Some}
+use Rattle.std.proofs.Common.{ℕ, ◌≡◌, ◌≢◌, ◌<◌, ◌≤◌, ◌⊎◌, List, [], ◌∷◌, ◌++◌, map, length, Option, None}
+use Rattle.std.proofs.Common.{Some}
 use Rattle.std.proofs.Common.{All, Contains, append-nil, append_assoc, inl, inr, refl, sym, ap, subst, ◌∙◌}
 use Rattle.std.proofs.Common.{⊎_elim, arith}
 use Rattle.std.specs.List.{range_with_len}
@@ -15,7 +16,8 @@ use Rattle.tv_model.specs.Program.{ProgramForm, RuleForm, program_of}
 use Rattle.tv_model.specs.Rules.{IsHeap, MeetsRule}
 use Rattle.tv_model.specs.Run.{IsStart}
 use Rattle.tv_model.specs.Valid.{IsValid}
-use Rattle.tv_model.proofs.Lists.{Contains-here, Contains-there, Contains-none, pushed-cases, pushed-old, pushed-last}
+use Rattle.tv_model.proofs.Lists.{Contains-here, Contains-there, Contains-none, pushed-cases, pushed-old}
+use Rattle.tv_model.proofs.Lists.{pushed-last}
 use Rattle.tv_model.proofs.Parts.{arities-same}
 use Rattle.tv_coerce.specs.Coerced.{CoercesTo, CoercesHeaps}
 use Rattle.tv_embedding_laws.specs.Embedding.{IsHeapOf}
@@ -37,7 +39,8 @@ use Rattle.tv_two_valued.specs.Laws.{IsOfProgram}
 use Rattle.tv_two_valued.specs.TwoValued.{IsTwoValued, heap_of}
 use Rattle.tv_two_valued.proofs.Heaps.{heap-of_program}
 use Rattle.tv_heaps.specs.Heaps.{IsHeapIn, AreHeapsIn}
-use Rattle.tv_heaps.specs.Listed.{Wish, IsWaitingFor, IsWanted, HasCopyAmong, IsUnderWay, IsAhead, HasSplit, NarrowsTo}
+use Rattle.tv_heaps.specs.Listed.{Wish, IsWaitingFor, IsWanted, HasCopyAmong, IsUnderWay, IsAhead, HasSplit}
+use Rattle.tv_heaps.specs.Listed.{NarrowsTo}
 use Rattle.tv_heaps.specs.Listed.{HasLookedAtAll}
 use Rattle.tv_heaps.specs.declared.listed.Listed.{Listed}
 use Rattle.tv_heaps.specs.declared.rulebook.Rulebook.{Rulebook}

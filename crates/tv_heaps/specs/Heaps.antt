@@ -19,7 +19,8 @@ pub record IsHeapIn (p : ProgramForm) (cells : ℕ) (s t : StructureForm) : Type
   pub lies : IsHeapOf (heap_of t) (structure_of s)
 
 -- the structures stand for such heaps, and each such heap is a copy of one of them
-pub record AreHeapsIn (p : ProgramForm) (cells : ℕ) (s : StructureForm) (heaps : List StructureForm) : Type 0 where
+pub record AreHeapsIn (p : ProgramForm) (cells : ℕ) (s : StructureForm)
+    (heaps : List StructureForm) : Type 0 where
   pub each : All (IsHeapIn p cells s) heaps
   pub all : (h : Heap) → IsStart p h → length h.individuals ≤ cells → IsHeapOf h (structure_of s)
       → (t : StructureForm) × Contains heaps t × IsHeapCopy (heap_of t) h

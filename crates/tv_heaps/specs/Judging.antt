@@ -8,8 +8,8 @@ use Rattle.tv_rules.specs.Closing.{closed_rules}
 use Rattle.tv_rules.specs.EntryForms.{rules_of}
 use Rattle.tv_heaps.specs.declared.rulebook.Rulebook.{Rulebook}
 
--- the program is valid, the rules are its closed ones and those of its properties, and there is room to evaluate
--- its formulas
+-- the program is valid, the rules are its closed ones and those of its properties, and there is room to
+-- evaluate its formulas
 pub record IsReadyBook (book : Rulebook) (scratch : ScratchForm) : Type 0 where
   pub valid : IsValid (program_of book.program.now)
   pub closed : rules_of book.closed.now ≡ closed_rules (program_of book.program.now)

@@ -15,8 +15,8 @@ use tv_openings::openings;
 use tv_struct::{Structure, Structures};
 
 /// All heaps of at most `cells` individuals with which a run may begin and that embed in the structure, up to
-/// copies: each structure that is given stands for one, and each such heap is a copy of one that is given. The
-/// scratch is given back as it was.
+/// copies: each structure that is given stands for one, and each such heap is a copy of one that is given.
+/// The scratch is given back as it was.
 ///
 /// # Errors
 /// `TooMany` where more than `most` structures had to be looked at, `Memory` where there was none.

@@ -1,5 +1,5 @@
-//! All heaps of few cells that belong to a structure, up to copies: its summaries are made several individuals, and
-//! its unknown values definite, one at a time, with coerce in between.
+//! All heaps of few cells that belong to a structure, up to copies: its summaries are made several
+//! individuals, and its unknown values definite, one at a time, with coerce in between.
 #![tactic(auto)]
 
 mod error;

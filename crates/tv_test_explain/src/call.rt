@@ -10,7 +10,7 @@ use tv_outside::{MemFiles, MemSink};
 #[derive(Clone, Copy)]
 pub struct Row<'w, 'f, 'o, 'e> {
     pub words: &'w [&'w str],
-    pub files: &'static [(&'static str, &'static str)],
+    pub files: &'w [(&'w str, &'w str)],
     pub files_fail: &'f [u64],
     pub out_fail: &'f [u64],
     pub err_fail: &'f [u64],
@@ -74,6 +74,23 @@ pub fn wrong_part(
     } else {
         None
     })
+}
+
+/// Which part of the call with these words, with a blank between them, isn't as the row has it.
+pub fn wrong_part_of(
+    alloc: Global,
+    line: &str,
+    row: &Row<'_, '_, '_, '_>,
+) -> Result<Option<&'static str>, AllocError> {
+    let mut words = Vec::new(alloc);
+    for word in line.split(' ') {
+        words.push(word)?;
+    }
+    let asked = Row {
+        words: &words,
+        ..*row
+    };
+    wrong_part(alloc, &asked)
 }
 
 /// The number of the first row that isn't as its call ends, and which part of it isn't.

@@ -1,8 +1,7 @@
 //! Chains to messages and to structures.
 
-use crate::call::{PLAIN, Row, first_wrong};
+use crate::call::{PLAIN, Row};
 use crate::texts::PROGRAM;
-use std::test::Fail;
 
 /// A structure without individuals in which `b` is false, and so as the program has it.
 const OFF: &str = "%n = {} %p = {}";
@@ -22,7 +21,7 @@ const ASKED_OF_BOTH: Row<'static, 'static, 'static, 'static> = Row {
 };
 
 /// `b` is false at `L0` and true at `L1`, but for the second structure.
-static CHAINS: [Row<'static, 'static, 'static, 'static>; 15] = [
+pub static CHAINS: [Row<'static, 'static, 'static, 'static>; 17] = [
     Row {
         words: &["message", "p", "i", "3", "0"],
         out: "initial 0
@@ -173,15 +172,6 @@ edge 0  p:1  L Say ( ) L  message 0 is 1: \"off\"
         out: "no message\n",
         ..PLAIN
     },
-];
-
-#[test]
-fn chains_are_told(rt: HostRuntime) -> Result<(), Fail> {
-    assert_eq!(rt; first_wrong(rt.alloc(), &CHAINS)?, None);
-    Ok(())
-}
-
-static REFUSALS: [Row<'static, 'static, 'static, 'static>; 7] = [
     Row {
         words: &["message", "p", "i", "3", "0", "--max-structures", "1"],
         code: 4,
@@ -194,45 +184,4 @@ static REFUSALS: [Row<'static, 'static, 'static, 'static>; 7] = [
         err: "tvla-explain: more than 2 structures\n",
         ..ASKED
     },
-    Row {
-        words: &["message", "p", "i", "0", "0"],
-        files: &[("p", PROGRAM), ("i", "%n = {} %p = { c = 1 }")],
-        code: 3,
-        err: "tvla-explain: initial: NameUnknown (./tvla-lint with the same words tells where)\n",
-        ..PLAIN
-    },
-    Row {
-        words: &["structure", "p", "i", "L0", "0"],
-        files: &[("p", PROGRAM), ("i", "%n")],
-        code: 3,
-        err: "tvla-explain: initial: Syntax at 1:3 (./tvla-lint with the same words tells where)\n",
-        ..PLAIN
-    },
-    Row {
-        words: &["message", "p", "i", "0", "0"],
-        files: &[("p", "%p x( %% %%"), ("i", "%n")],
-        code: 3,
-        err: "tvla-explain: program: Syntax at 1:7 (./tvla-lint with the same words tells where)\n",
-        ..PLAIN
-    },
-    Row {
-        words: &["structure", "p", "i", "L0", "0"],
-        files: &[("i", OFF)],
-        code: 5,
-        err: "tvla-explain: read fault\n",
-        ..PLAIN
-    },
-    Row {
-        words: &["message", "p", "i", "9", "0"],
-        files: &[("p", PROGRAM)],
-        code: 5,
-        err: "tvla-explain: read fault\n",
-        ..PLAIN
-    },
 ];
-
-#[test]
-fn chains_are_refused(rt: HostRuntime) -> Result<(), Fail> {
-    assert_eq!(rt; first_wrong(rt.alloc(), &REFUSALS)?, None);
-    Ok(())
-}

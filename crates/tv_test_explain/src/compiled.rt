@@ -1,7 +1,6 @@
-//! Source programs, the programs that they are compiled to, and what isn't compiled.
+//! Source programs, the programs that they are compiled to.
 
-use crate::call::{PLAIN, Row, first_wrong};
-use std::test::Fail;
+use crate::call::{PLAIN, Row};
 
 /// A loop in which each second cell is given up, or loses what is behind it.
 const LOOP: &str = "// Each second cell is visited.
@@ -111,9 +110,7 @@ const ASKED: Row<'static, 'static, 'static, 'static> = Row {
     ..PLAIN
 };
 
-const REFUSED: Row<'static, 'static, 'static, 'static> = Row { code: 3, ..ASKED };
-
-static ROWS: [Row<'static, 'static, 'static, 'static>; 7] = [
+pub static COMPILED: [Row<'static, 'static, 'static, 'static>; 3] = [
     Row {
         files: &[("s", LOOP)],
         out: LOOP_WRITTEN,
@@ -130,30 +127,4 @@ static ROWS: [Row<'static, 'static, 'static, 'static>; 7] = [
         out: STORE_WRITTEN,
         ..PLAIN
     },
-    Row {
-        files: &[("s", "vars {x}")],
-        err: "tvla-explain: source: Syntax at 1:9 (./tvla-lint with the same words tells where)\n",
-        ..REFUSED
-    },
-    Row {
-        files: &[("s", "vars {x} fields {n} x = y")],
-        err: "tvla-explain: source: NameUnknown (./tvla-lint with the same words tells where)\n",
-        ..REFUSED
-    },
-    Row {
-        files: &[("s", "vars {x} fields {n} x = ~")],
-        err: "tvla-explain: source: BadByte (./tvla-lint with the same words tells where)\n",
-        ..REFUSED
-    },
-    Row {
-        code: 5,
-        err: "tvla-explain: read fault\n",
-        ..ASKED
-    },
 ];
-
-#[test]
-fn source_programs_are_written(rt: HostRuntime) -> Result<(), Fail> {
-    assert_eq!(rt; first_wrong(rt.alloc(), &ROWS)?, None);
-    Ok(())
-}

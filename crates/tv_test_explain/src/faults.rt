@@ -1,6 +1,6 @@
 //! Each call on files and on sinks fails once.
 
-use crate::call::{PLAIN, Row, first_wrong, wrong_part};
+use crate::call::{PLAIN, Row, wrong_part};
 use crate::texts::{PROGRAM, REPORT, SHOWN};
 use std::alloc::{AllocError, Global};
 use std::test::Fail;
@@ -50,7 +50,7 @@ fn faults_of_files_are_told(rt: HostRuntime) -> Result<(), Fail> {
 }
 
 /// The second call of `out` fails, which `err` is told; and so does that of `err`, which is given no more.
-static WRITES: [Row<'static, 'static, 'static, 'static>; 3] = [
+pub static WRITES: [Row<'static, 'static, 'static, 'static>; 3] = [
     Row {
         out_fail: &[2],
         code: 6,
@@ -73,9 +73,3 @@ static WRITES: [Row<'static, 'static, 'static, 'static>; 3] = [
         ..PLAIN
     },
 ];
-
-#[test]
-fn faults_of_sinks_are_told(rt: HostRuntime) -> Result<(), Fail> {
-    assert_eq!(rt; first_wrong(rt.alloc(), &WRITES)?, None);
-    Ok(())
-}

@@ -12,8 +12,12 @@ mod faults;
 #[cfg(test)]
 mod losses;
 #[cfg(test)]
+mod refusals;
+#[cfg(test)]
 mod rows;
 #[cfg(test)]
 mod texts;
+#[cfg(test)]
+mod views;
 #[cfg(test)]
 mod words;

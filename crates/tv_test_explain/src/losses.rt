@@ -1,7 +1,6 @@
 //! What analyses lose.
 
-use crate::call::{PLAIN, Row, first_wrong};
-use std::test::Fail;
+use crate::call::{PLAIN, Row};
 
 /// A predicate without arguments that is defined: an initial structure has to say what it is.
 const DEFINED: &str = "%p x(v) unique %i some() = E(v) x(v) %% %action skip() { } %% L1 skip() L2";
@@ -53,7 +52,7 @@ const LOST: Row<'static, 'static, 'static, 'static> = Row {
     ..PLAIN
 };
 
-static LOSSES: [Row<'static, 'static, 'static, 'static>; 20] = [
+pub static LOSSES: [Row<'static, 'static, 'static, 'static>; 21] = [
     Row {
         files: &[("p", DEFINED), ("i", "%n = {a} %p = { x = {a} some = 1 }")],
         ..NOTHING
@@ -214,15 +213,6 @@ edge 0 loses 1 of 1 structures, first 0  p:2  L1 set ( ) L2
         err: "tvla-explain: write fault\n",
         ..LOST
     },
-];
-
-#[test]
-fn losses_are_told(rt: HostRuntime) -> Result<(), Fail> {
-    assert_eq!(rt; first_wrong(rt.alloc(), &LOSSES)?, None);
-    Ok(())
-}
-
-static REFUSALS: [Row<'static, 'static, 'static, 'static>; 6] = [
     Row {
         words: &["losses", "p", "i", "--recompute", "--max-structures", "1"],
         files: &FREE_OF_BOTH,
@@ -230,45 +220,4 @@ static REFUSALS: [Row<'static, 'static, 'static, 'static>; 6] = [
         err: "tvla-explain: more than 1 structures\n",
         ..PLAIN
     },
-    Row {
-        words: &["losses", "p", "i"],
-        files: &[("p", "%p x( %% %%"), ("i", "%n")],
-        code: 3,
-        err: "tvla-explain: program: Syntax at 1:7 (./tvla-lint with the same words tells where)\n",
-        ..PLAIN
-    },
-    Row {
-        words: &["losses", "p", "i"],
-        files: &[("p", CYCLE), ("i", "%n")],
-        code: 3,
-        err: "tvla-explain: initial: Syntax at 1:3 (./tvla-lint with the same words tells where)\n",
-        ..PLAIN
-    },
-    Row {
-        words: &["losses", "p", "i"],
-        files: &[("p", CYCLE), ("i", "%n = {} %p = { c = 1 }")],
-        code: 3,
-        err: "tvla-explain: initial: NameUnknown (./tvla-lint with the same words tells where)\n",
-        ..PLAIN
-    },
-    Row {
-        words: &["losses", "p", "i"],
-        files: &[("p", CYCLE)],
-        code: 5,
-        err: "tvla-explain: read fault\n",
-        ..PLAIN
-    },
-    Row {
-        words: &["losses", "p", "i"],
-        files: &[("i", "%n = {} %p = {}")],
-        code: 5,
-        err: "tvla-explain: read fault\n",
-        ..PLAIN
-    },
 ];
-
-#[test]
-fn losses_are_refused(rt: HostRuntime) -> Result<(), Fail> {
-    assert_eq!(rt; first_wrong(rt.alloc(), &REFUSALS)?, None);
-    Ok(())
-}

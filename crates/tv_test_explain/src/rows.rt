@@ -1,22 +1,19 @@
 //! Calls on files that don't fail: what is asked for, and each refusal.
 
 use crate::call::{PLAIN, Row, first_wrong};
+use crate::chains::CHAINS;
+use crate::compiled::COMPILED;
+use crate::faults::WRITES;
+use crate::losses::LOSSES;
 use crate::texts::{EDGES, PROGRAM, REPORT, SHOWN, USAGE};
+use crate::views::VIEWS;
 use std::test::Fail;
 
-const FAULT: Row<'static, 'static, 'static, 'static> = Row { code: 3, ..PLAIN };
-
-const NOT_READ: Row<'static, 'static, 'static, 'static> = Row {
-    code: 5,
-    err: "tvla-explain: read fault\n",
-    ..PLAIN
-};
-
-static ROWS: [Row<'static, 'static, 'static, 'static>; 16] = [
+static ROWS: [Row<'static, 'static, 'static, 'static>; 6] = [
     Row {
-        words: &["show", "p", "r"],
-        files: &[("p", PROGRAM), ("r", REPORT)],
-        out: SHOWN,
+        words: &[],
+        code: 2,
+        err: USAGE,
         ..PLAIN
     },
     Row {
@@ -35,6 +32,13 @@ static ROWS: [Row<'static, 'static, 'static, 'static>; 16] = [
         ..PLAIN
     },
     Row {
+        words: &["edges", "p"],
+        files: &[("p", "#include \"q\"\n")],
+        code: 5,
+        err: "tvla-explain: read fault\n",
+        ..PLAIN
+    },
+    Row {
         words: &["edges", "main"],
         files: &[
             (
@@ -50,78 +54,20 @@ edge 2  main:6  L0 Go ( ) L1
         ..PLAIN
     },
     Row {
-        words: &["edges", "p"],
-        files: &[("p", "%p x( %% %%")],
-        err: "tvla-explain: program: Syntax at 1:7 (./tvla-lint with the same words tells where)\n",
-        ..FAULT
-    },
-    Row {
         words: &["show", "p", "r"],
-        files: &[("p", "%p x( %% %%"), ("r", "")],
-        err: "tvla-explain: program: Syntax at 1:7 (./tvla-lint with the same words tells where)\n",
-        ..FAULT
-    },
-    Row {
-        words: &["edges", "p"],
-        files: &[("p", "%s S T %% %%")],
-        err: "tvla-explain: program: NameUnknown (./tvla-lint with the same words tells where)\n",
-        ..FAULT
-    },
-    Row {
-        words: &["edges", "p"],
-        files: &[("p", "%r b() ==> 0 %% %%")],
-        err: "tvla-explain: program: NameUnknown (./tvla-lint with the same words tells where)\n",
-        ..FAULT
-    },
-    Row {
-        words: &["edges", "p"],
-        files: &[("p", "%p b() %% %% $")],
-        err: "tvla-explain: program: BadByte (./tvla-lint with the same words tells where)\n",
-        ..FAULT
-    },
-    Row {
-        words: &["edges", "p"],
-        files: &[("p", "#include q\n")],
-        err: "tvla-explain: program: IncludeForm (./tvla-lint with the same words tells where)\n",
-        ..FAULT
-    },
-    Row {
-        words: &["show", "p", "r"],
-        files: &[("p", PROGRAM), ("r", "tvla report 2")],
-        err: "tvla-explain: report: ReportForm at 1:14 (./tvla-lint with the same words tells where)\n",
-        ..FAULT
-    },
-    Row {
-        words: &["show", "p", "r"],
-        files: &[("p", PROGRAM), ("r", "$")],
-        err: "tvla-explain: report: BadByte (./tvla-lint with the same words tells where)\n",
-        ..FAULT
-    },
-    Row {
-        words: &["edges", "p"],
-        files: &[("r", REPORT)],
-        ..NOT_READ
-    },
-    Row {
-        words: &["edges", "p"],
-        files: &[("p", "#include \"q\"\n")],
-        ..NOT_READ
-    },
-    Row {
-        words: &["show", "p", "r"],
-        files: &[("p", PROGRAM)],
-        ..NOT_READ
-    },
-    Row {
-        words: &[],
-        code: 2,
-        err: USAGE,
+        files: &[("p", PROGRAM), ("r", REPORT)],
+        out: SHOWN,
         ..PLAIN
     },
 ];
 
 #[test]
-fn calls_end_as_they_should(rt: HostRuntime) -> Result<(), Fail> {
-    assert_eq!(rt; first_wrong(rt.alloc(), &ROWS)?, None);
+fn calls_end_as_their_rows_say(rt: HostRuntime) -> Result<(), Fail> {
+    let tables: [&[Row<'static, 'static, 'static, 'static>]; 6] = [
+        &ROWS, &CHAINS, &LOSSES, &COMPILED, &VIEWS, &WRITES,
+    ];
+    for table in tables {
+        assert_eq!(rt; first_wrong(rt.alloc(), table)?, None);
+    }
     Ok(())
 }

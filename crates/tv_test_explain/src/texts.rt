@@ -59,4 +59,8 @@ tvla-explain message PROGRAM INITIAL EDGE NUMBER [--max-structures N] [--recompu
        tvla-explain show PROGRAM REPORT
        tvla-explain edges PROGRAM
        tvla-explain compiled SOURCE
+       tvla-explain step PROGRAM STRUCTURES EDGE [--recompute | --delta]
+       tvla-explain plan PROGRAM [--recompute | --delta]
+       tvla-explain counts PROGRAM INITIAL [--max-structures N] [--recompute | --delta]
+       tvla-explain complete PROGRAM STRUCTURES
 ";

@@ -1,6 +1,6 @@
 //! Words that spell no command, and words that name what isn't there.
 
-use crate::call::{PLAIN, Row, wrong_part};
+use crate::call::{PLAIN, Row, wrong_part_of};
 use crate::texts::{PROGRAM, REPORT, USAGE};
 use std::alloc::{AllocError, Global};
 use std::test::Fail;
@@ -33,7 +33,21 @@ compile s
 compiled
 compiled s s
 compiled s --delta
-compiled s --max-structures=5";
+compiled s --max-structures=5
+step p i
+step p i 0 0
+step p i L0
+step p i 0 --max-structures 5
+step p i 0 --delta --recompute
+plan
+plan p i
+plan p --max-structures 5
+counts p
+counts p i 0
+counts p i --max-structures=0
+complete p
+complete p i i
+complete p i --delta";
 
 /// Words that name what isn't there, and what is told of them.
 const ABSENT: &str = "message p i 4 0;no such edge
@@ -41,7 +55,8 @@ message p i 4294967295 0;no such edge
 message p i 1 0;no such message
 message p i 3 1;no such message
 structure p i L3 0;no such node
-structure p i L1 1;no such structure";
+structure p i L1 1;no such structure
+step p i 4;no such edge";
 
 /// Each file that the words name is there.
 const REFUSED: Row<'static, 'static, 'static, 'static> = Row {
@@ -56,18 +71,9 @@ const REFUSED: Row<'static, 'static, 'static, 'static> = Row {
     ..PLAIN
 };
 
-/// Which part of a call with these words isn't as where it is refused with this text.
-fn wrong_part_of(alloc: Global, line: &str, err: &str) -> Result<Option<&'static str>, AllocError> {
-    let mut words = Vec::new(alloc);
-    for word in line.split(' ') {
-        words.push(word)?;
-    }
-    let row = Row {
-        words: &words,
-        err,
-        ..REFUSED
-    };
-    wrong_part(alloc, &row)
+/// The row that is refused with this text.
+fn refused(err: &str) -> Row<'static, 'static, 'static, '_> {
+    Row { err, ..REFUSED }
 }
 
 /// Which part of a call isn't as where it is refused with what the row has behind the words.
@@ -76,13 +82,17 @@ fn wrong_part_where_absent(alloc: Global, row: &str) -> Result<Option<&'static s
         return Ok(Some("row"));
     };
     let err = format!(in alloc; "tvla-explain: {told}\n")?;
-    wrong_part_of(alloc, line, &err)
+    wrong_part_of(alloc, line, &refused(&err))
 }
 
 #[test]
 fn words_that_spell_no_command_are_refused(rt: HostRuntime) -> Result<(), Fail> {
     for line in NO_COMMANDS.split('\n') {
-        assert_eq!(rt; wrong_part_of(rt.alloc(), line, USAGE)?, None, "{line}");
+        assert_eq!(rt;
+            wrong_part_of(rt.alloc(), line, &refused(USAGE))?,
+            None,
+            "{line}"
+        );
     }
     Ok(())
 }

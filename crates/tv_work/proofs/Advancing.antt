@@ -16,16 +16,16 @@ use Rattle.tv_structure_form.specs.StructureForm.{StructureForm}
 use Rattle.tv_step_laws.specs.Budgets.{KeepsBudgets}
 use Rattle.tv_step_laws.specs.Settled.{IsSettled}
 use Rattle.tv_step_laws.specs.Transfer.{AreResults, IsMessageValue, IsOpening}
-use Rattle.tv_work.specs.Analyzed.{IsAtSource}
 use Rattle.tv_work.specs.Explored.{IsSearchState, AreSaid, Advances, IsOpenedIn, AreStepsDone, IsDoneAlong}
 use Rattle.tv_work.specs.Explored.{AreDone, DoesAlong, Does, KeepsListed, IsExplored}
 use Rattle.tv_work.specs.Reach.{Point, IsListed}
 use Rattle.tv_work.specs.Search.{SearchForm, StandsFor, Waits, IsOnce, IsWithin, Grows, ListsOnly}
-use Rattle.tv_work.specs.Task.{TaskForm, reached_in}
+use Rattle.tv_work.specs.Task.{TaskForm, reached_in, reached_within}
 use Rattle.tv_work.specs.Told.{told_value}
 use Rattle.tv_work.specs.declared.search.Waiting.{Waiting}
 use Rattle.tv_work.proofs.Growing.{grows-on, waits-on}
 use Rattle.tv_work.proofs.Larger.{larger-self, larger-trans}
+use Rattle.tv_work.proofs.Within.{within-reached, within-kept, start-within, step-within}
 
 -- ---- what is listed
 
@@ -68,10 +68,10 @@ kept-none t = record {
     none zero = refl
     none (suc n) = omega (arith, sum_by-cons {X = List StructureForm} length [] (replicate n []), none n)
 
--- what is new is reached and settled
+-- what is new is reached through what was listed, and settled
 pub kept-more : (t : TaskForm) (P : Point → Type 0) (old new : SearchForm) → IsSearchState t old → Grows old new
     → IsWithin t.max new
-    → ListsOnly P old new → ((x : Point) → P x → reached_in t x)
+    → ListsOnly P old new → ((x : Point) → P x → reached_within t old.listing x)
     → ((x : Point) → P x → IsSettled t.program x.structure)
     → IsSearchState t new
 kept-more t P old new kept grows within only reached settled = record {
@@ -81,9 +81,12 @@ kept-more t P old new kept grows within only reached settled = record {
   settled = λ x has. s x (only x has);
 }
   where
-    r : (x : Point) → IsListed old.listing x ⊎ P x → reached_in t x
-    r x (inl has) = kept.reached x has
-    r x (inr is) = reached x is
+    on : (x : Point) → reached_within t old.listing x → reached_within t new.listing x
+    on = within-kept t old.listing new.listing grows.kept
+
+    r : (x : Point) → IsListed old.listing x ⊎ P x → reached_within t new.listing x
+    r x (inl has) = on x (kept.reached x has)
+    r x (inr is) = on x (reached x is)
 
     s : (x : Point) → IsListed old.listing x ⊎ P x → IsSettled t.program x.structure
     s x (inl has) = kept.settled x has
@@ -93,49 +96,24 @@ kept-more t P old new kept grows within only reached settled = record {
 
 pub start-reached : (t : TaskForm) (s u : StructureForm) → Contains t.initial s → IsOpening t.program s u
     → reached_in t (record { node = 0; structure = u })
-start-reached t s u (k, within, at) opening = record {
-  before = [];
-  derivation = record { node = refl; opens = (k, s, within, at, opening) };
-}
+start-reached t s u has opening = within-reached t [] (record { node = 0; structure = u })
+    (start-within t [] s u has opening)
 
 module _ (t : TaskForm) (s u : StructureForm) (initial : Contains t.initial s)
     (opening : IsOpening t.program s u)
     (is_settled : IsSettled t.program u) where
-  pub open-reached : (old : SearchForm) → IsSearchState t old → (x : Point)
-      → IsListed old.listing x ⊎ (x ≡ record { node = 0; structure = u }) → reached_in t x
-  open-reached old kept x (inl has) = kept.reached x has
-  open-reached old kept x (inr e) = subst (reached_in t) (sym e) (start-reached t s u initial opening)
+  pub open-within : (old : SearchForm) → IsSearchState t old → (x : Point)
+      → IsListed old.listing x ⊎ (x ≡ record { node = 0; structure = u }) → reached_within t old.listing x
+  open-within old kept x (inl has) = kept.reached x has
+  open-within old kept x (inr e) = subst (reached_within t old.listing) (sym e)
+      (start-within t old.listing s u initial opening)
 
   pub open-kept : (old new : SearchForm) → IsSearchState t old → Grows old new
       → ListsOnly (λ x. x ≡ record { node = 0; structure = u }) old new → IsWithin t.max new → IsSearchState t new
   open-kept old new kept grows only within = kept-more t (λ x. x ≡ record { node = 0; structure = u }) old new
       kept grows within only
-      (λ x e. open-reached old kept x (inr e)) (λ x e. subst (λ (y : Point). IsSettled t.program y.structure)
+      (λ x e. open-within old kept x (inr e)) (λ x e. subst (λ (y : Point). IsSettled t.program y.structure)
       (sym e) is_settled)
-
--- ---- a step
-
-pub step-reached : (t : TaskForm) (edge : ℕ) (x : Point)
-    → (source : IsAtSource t.program edge (reached_in t) x)
-    → (results : List StructureForm) → AreResults t.program t.mode edge x.structure results
-    → (y : Point) → y.node ≡ source.taken.to → Contains results y.structure → reached_in t y
-step-reached t edge x source results are y enters has = record {
-  before = x ∷ source.has.before;
-  derivation = (
-    (
-      edge,
-      source.taken,
-      record {
-        is_edge = source.is_edge;
-        leaves = source.leaves;
-        enters = enters;
-        result
-            = (results, are, has);
-      },
-    ),
-    source.has.derivation,
-  );
-}
 
 pub opened-kept : (t : TaskForm) (old new : List (List StructureForm)) → KeepsListed old new
     → (s : StructureForm)
@@ -252,11 +230,11 @@ module _ (t : TaskForm) (edge to : ℕ) (taken : Edge) (x : Point) (results : Li
   abbrev pub Arrives : Point → Type 0
   Arrives y = (y.node ≡ to) × Contains results y.structure
 
-  pub arrived-reached : (old : SearchForm) → IsSearchState t old → IsListed old.listing x → (y : Point)
-      → IsListed old.listing y ⊎ Arrives y → reached_in t y
-  arrived-reached old kept has y (inl listed) = kept.reached y listed
-  arrived-reached old kept has y (inr (here, among)) =
-      step-reached t edge x
+  pub arrived-within : (old : SearchForm) → IsSearchState t old → IsListed old.listing x → (y : Point)
+      → IsListed old.listing y ⊎ Arrives y → reached_within t old.listing y
+  arrived-within old kept has y (inl listed) = kept.reached y listed
+  arrived-within old kept has y (inr (here, among)) =
+      step-within t old.listing edge x has
       (record { taken = taken; is_edge = is_edge; leaves = leaves; has = kept.reached x has })
       results are y (here ∙ enters) among
 
@@ -264,7 +242,7 @@ module _ (t : TaskForm) (edge to : ℕ) (taken : Edge) (x : Point) (results : Li
       → ListsOnly Arrives old new
       → IsWithin t.max new → IsSearchState t new
   arrived-kept old new kept has grows only within = kept-more t Arrives old new kept grows within only
-      (λ y among. arrived-reached old kept has y (inr among))
+      (λ y among. arrived-within old kept has y (inr among))
       (λ y among. All-contains (IsSettled t.program) results y.structure all_settled among.1)
 
 -- the structure at the place is followed: its step along the edge is done
@@ -349,7 +327,7 @@ explored-all t first s told kept said done none once keeps opened = record {
   nodes = kept.nodes;
   once = once;
   within = omega (arith, kept.within.count, kept.within.most);
-  reached = kept.reached;
+  reached = λ x has. within-reached t s.listing x (kept.reached x has);
   settled = kept.settled;
   opened = All-weaker (IsOpenedIn t first.listing) (IsOpenedIn t s.listing)
       (opened-kept t first.listing s.listing keeps) t.initial opened;

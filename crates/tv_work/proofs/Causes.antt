@@ -1,5 +1,5 @@
 -- Why there is no answer, and what that says of the reached points.
-use Rattle.std.proofs.Common.{ℕ, ◌≡◌, ◌∙◌, List, Result, Ok, Err, OnOk, length}
+use Rattle.std.proofs.Common.{ℕ, ◌≡◌, ◌∙◌, ◌⊎◌, List, Result, Ok, Err, OnOk, length}
 use Rattle.tv_model.specs.Program.{ProgramForm}
 use Rattle.tv_struct.specs.declared.analysis.StageError.{StageError}
 use Rattle.tv_struct.specs.declared.analysis.StageError.TheVariants.{Splits as splits}
@@ -8,11 +8,13 @@ use Rattle.tv_struct.specs.declared.analysis.StageError.TheVariants.{Memory as m
 use Rattle.tv_step_laws.specs.Budgets.{IsStepCause}
 use Rattle.tv_work.specs.Analyzed.{IsAtSource, IsWorkCause, IsMeetCause, work_error}
 use Rattle.tv_structure_form.specs.StructureForm.{StructureForm}
-use Rattle.tv_work.specs.Reach.{Point, AreMoreThan}
+use Rattle.tv_work.specs.Explored.{KeepsListed}
+use Rattle.tv_work.specs.Reach.{Point, IsListed, AreMoreThan}
 use Rattle.tv_work.specs.Stopped.{ListsOneMore, IsMeetStop, IsTaskStop}
-use Rattle.tv_work.specs.Task.{TaskForm, reached_in}
+use Rattle.tv_work.specs.Task.{TaskForm, reached_in, reached_within}
 use Rattle.tv_work.specs.declared.error.WorkError.{WorkError}
 use Rattle.tv_work.specs.declared.error.WorkError.TheVariants.{Structures, Splits, Individuals, Memory}
+use Rattle.tv_work.proofs.Within.{within-kept}
 
 -- what follows from three things that hold at Ok
 pub ok-three : {T E A B C D : Type 0} (r : Result T E) → (A → B → C → D) → OnOk r A → OnOk r B → OnOk r C
@@ -66,24 +68,31 @@ listed-weaker m n max P Q listing same weaker lists = record {
   total = lists.total;
 }
 
-pub stop-weaker : (m n max : ℕ) (P Q : Point → Type 0) (listing : List (List StructureForm)) → m ≡ n
-    → ((x : Point) → P x → Q x) → (e : WorkError) → IsMeetStop m max P listing e
-    → IsMeetStop n max Q listing e
-stop-weaker m n max P Q listing same weaker Structures stop =
-    listed-weaker m n max P Q listing same weaker stop
-stop-weaker m n max P Q listing same weaker Splits stop = stop
-stop-weaker m n max P Q listing same weaker Individuals stop = stop
-stop-weaker m n max P Q listing same weaker Memory stop = tt
+-- a listing that grew to the middle one grows on
+pub stop-on : (max : ℕ) (P Q : Point → Type 0) (old middle new : List (List StructureForm))
+    → length middle ≡ length old → KeepsListed old middle
+    → ((x : Point) → IsListed middle x ⊎ P x → IsListed old x ⊎ Q x) → (e : WorkError)
+    → IsMeetStop max P middle new e → IsMeetStop max Q old new e
+stop-on max P Q old middle new same keeps weaker Structures stop = record {
+  kept = λ x has. stop.kept x (keeps x has);
+  one_more = listed-weaker (length middle) (length old) max (λ x. IsListed middle x ⊎ P x)
+      (λ x. IsListed old x ⊎ Q x) new same weaker stop.one_more;
+}
+stop-on max P Q old middle new same keeps weaker Splits stop = stop
+stop-on max P Q old middle new same keeps weaker Individuals stop = stop
+stop-on max P Q old middle new same keeps weaker Memory stop = tt
 
--- structures are met that are reached
-pub meet-stop : (t : TaskForm) (nodes : ℕ) (P : Point → Type 0) (listing : List (List StructureForm))
-    → nodes ≡ length t.program.nodes → ((x : Point) → P x → reached_in t x) → (e : WorkError)
-    → IsMeetStop nodes t.max P listing e → IsTaskStop t listing e
-meet-stop t nodes P listing same weaker Structures stop =
-    listed-weaker nodes (length t.program.nodes) t.max P (reached_in t) listing same weaker stop
-meet-stop t nodes P listing same weaker Splits stop = absurd stop
-meet-stop t nodes P listing same weaker Individuals stop = absurd stop
-meet-stop t nodes P listing same weaker Memory stop = tt
+-- structures are met that are reached through listed ones
+pub meet-stop : (t : TaskForm) (P : Point → Type 0) (old new : List (List StructureForm))
+    → length old ≡ length t.program.nodes
+    → ((x : Point) → IsListed old x ⊎ P x → reached_within t old x) → (e : WorkError)
+    → IsMeetStop t.max P old new e → IsTaskStop t new e
+meet-stop t P old new same within Structures stop =
+    listed-weaker (length old) (length t.program.nodes) t.max (λ x. IsListed old x ⊎ P x)
+    (reached_within t new) new same (λ x is. within-kept t old new stop.kept x (within x is)) stop.one_more
+meet-stop t P old new same within Splits stop = absurd stop
+meet-stop t P old new same within Individuals stop = absurd stop
+meet-stop t P old new same within Memory stop = tt
 
 -- the step of a reached structure has no answer
 pub step-stop : (t : TaskForm) (edge : ℕ) (listing : List (List StructureForm)) (x : Point)

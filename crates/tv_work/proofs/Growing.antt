@@ -10,7 +10,7 @@ use Rattle.tv_listing.specs.ListingForm.{at_node, appended, HasEqual}
 use Rattle.tv_structure_form.specs.StructureForm.{StructureForm}
 use Rattle.tv_work.specs.Reach.{Point, IsListed, AreMoreThan}
 use Rattle.tv_work.specs.Search.{SearchForm, Waits, IsOnce, IsSearch, IsWithin, Grows, ListsOnly}
-use Rattle.tv_work.specs.Stopped.{ListsOneMore}
+use Rattle.tv_work.specs.Stopped.{GrowsPast}
 use Rattle.tv_work.specs.declared.search.Waiting.{Waiting}
 use Rattle.tv_work.proofs.Once.{once-push, once-different}
 use Rattle.tv_work.proofs.Meeting.{at-same, at-each, listed-kept, listed-cases, stands-kept, stands-last}
@@ -145,14 +145,16 @@ module _ (old : SearchForm) (node : ℕ) (s : StructureForm) (is-node : node < l
   }
 
   -- and the listing has it
-  pub lists-one-more : (max : ℕ) → IsWithin max old → old.count ≡ max
-      → ListsOneMore (length old.listing) max
-      (λ x. IsListed old.listing x ⊎ (x ≡ record { node = node; structure = s })) (appended old.listing node s)
-  lists-one-more max within full = record {
-    count = length-set old.listing node (at_node old.listing node ++ s ∷ []);
-    different = all-different;
-    each = listed-cases old.listing node s is-node;
-    total = omega (arith, total-more old.listing node s is-node, within.count, full);
+  pub grows-past : (max : ℕ) → IsWithin max old → old.count ≡ max
+      → GrowsPast max (λ x. x ≡ record { node = node; structure = s }) old.listing (appended old.listing node s)
+  grows-past max within full = record {
+    kept = listed-kept old.listing node s is-node;
+    one_more = record {
+      count = length-set old.listing node (at_node old.listing node ++ s ∷ []);
+      different = all-different;
+      each = listed-cases old.listing node s is-node;
+      total = omega (arith, total-more old.listing node s is-node, within.count, full);
+    };
   }
 
 -- an equal structure is the same where neither is marked

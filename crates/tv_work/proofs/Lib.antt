@@ -6,6 +6,7 @@ pub mod Single
 pub mod Larger
 pub mod Saying
 pub mod Lines
+pub mod Within
 pub mod Causes
 pub mod Advancing
 pub mod Reporting

@@ -12,7 +12,7 @@ use Rattle.tv_step_laws.specs.Transfer.{AreResults, IsMessageValue, IsOpening, H
 use Rattle.tv_work.specs.Analyzed.{IsSaid, IsWorkCause}
 use Rattle.tv_work.specs.Reach.{Point, IsListed}
 use Rattle.tv_work.specs.Search.{SearchForm, StandsFor, Waits, IsWithin, IsOnce, Grows}
-use Rattle.tv_work.specs.Task.{TaskForm, reached_in}
+use Rattle.tv_work.specs.Task.{TaskForm, reached_in, reached_within}
 use Rattle.tv_work.specs.Told.{told_value}
 use Rattle.tv_work.specs.declared.error.WorkError.{WorkError}
 use Rattle.tv_work.specs.declared.search.Waiting.{Waiting}
@@ -21,11 +21,11 @@ use Rattle.tv_work.specs.declared.search.Waiting.{Waiting}
 abbrev pub IsTaskCause : TaskForm → WorkError → Type 0
 IsTaskCause t = IsWorkCause t.program t.max (reached_in t)
 
--- only reached structures are listed, each of them settled
+-- each listed structure is reached through listed ones, and settled
 pub record IsSearchState (t : TaskForm) (s : SearchForm) : Type 0 where
   pub nodes : length s.listing ≡ length t.program.nodes
   pub within : IsWithin t.max s
-  pub reached : (x : Point) → IsListed s.listing x → reached_in t x
+  pub reached : (x : Point) → IsListed s.listing x → reached_within t s.listing x
   pub settled : (x : Point) → IsListed s.listing x → IsSettled t.program x.structure
 
 -- only values of messages for listed structures are told

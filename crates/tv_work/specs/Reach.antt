@@ -46,6 +46,13 @@ pub record IsReached (p : ProgramForm) (mode : Mode) (initial : List StructureFo
   pub before : List Point
   pub derivation : IsDerivation p mode initial x before
 
+-- a derivation leads to the point through listed points alone
+pub record IsReachedWithin (p : ProgramForm) (mode : Mode) (initial : List StructureForm)
+    (listing : List (List StructureForm)) (x : Point) : Type 0 where
+  pub before : List Point
+  pub derivation : IsDerivation p mode initial x before
+  pub listed : All (IsListed listing) before
+
 -- more than `max` different points have the property: they stand in a listing, each once
 pub record AreMoreThan (max : ℕ) (P : Point → Type 0) : Type 0 where
   pub found : List (List StructureForm)

@@ -1,12 +1,13 @@
 -- What is listed where one structure more is met than may be, and what an analysis that stops there answers.
-use Rattle.std.specs.Prelude.{ℕ, ◌≡◌, ◌≢◌, ◌+◌, List, length, sum_by, All, AllPairs}
+use Rattle.std.specs.Prelude.{ℕ, ◌≡◌, ◌≢◌, ◌+◌, ◌⊎◌, List, length, sum_by, All, AllPairs}
 use Rattle.tv_listing.specs.declared.analysis.Analysis.{Analysis}
 use Rattle.tv_model.specs.declared.program.Mode.{Mode}
 use Rattle.tv_model.specs.Program.{ProgramForm}
 use Rattle.tv_step_laws.specs.Budgets.{MeetsSplits, MeetsIndividuals}
 use Rattle.tv_structure_form.specs.StructureForm.{StructureForm}
 use Rattle.tv_work.specs.Analyzed.{Meets}
-use Rattle.tv_work.specs.Reach.{Point, IsListed, IsReached}
+use Rattle.tv_work.specs.Explored.{KeepsListed}
+use Rattle.tv_work.specs.Reach.{Point, IsListed, IsReachedWithin}
 use Rattle.tv_work.specs.Task.{TaskForm, reached_in}
 use Rattle.tv_work.specs.declared.analysis.Explored.{Explored}
 use Rattle.tv_work.specs.declared.analysis.Explored.TheVariants.{Whole, Cut}
@@ -25,10 +26,12 @@ pub record ListsOneMore (nodes max : ℕ) (P : Point → Type 0) (listing : List
     pub each : (x : Point) → IsListed listing x → P x
     pub total : sum_by length listing ≡ max + 1
 
--- of the nodes of the program are listed one more than `max` reached structures, each once
+-- of the nodes of the program are listed one more than `max` structures, each once and reached through
+-- listed ones
 abbrev pub ListsPast : ProgramForm → Mode → (initial : List StructureForm) → (max : ℕ)
     → (listing : List (List StructureForm)) → Type 0
-ListsPast p mode initial max listing = ListsOneMore (length p.nodes) max (IsReached p mode initial) listing
+ListsPast p mode initial max listing =
+    ListsOneMore (length p.nodes) max (IsReachedWithin p mode initial listing) listing
 
 -- what an error says of the reached points, where it is none that there are many
 abbrev pub IsStepsCause : ProgramForm → (Point → Type 0) → WorkError → Type 0
@@ -37,13 +40,19 @@ IsStepsCause p P Splits = Meets p (MeetsSplits p) P
 IsStepsCause p P Individuals = Meets p (MeetsIndividuals p) P
 IsStepsCause p P Memory = Unit {0}
 
--- what an error says of what is then listed, where structures are met that have the property
-abbrev pub IsMeetStop : (nodes max : ℕ) → (Point → Type 0) → (listing : List (List StructureForm)) → WorkError
+-- from the old listing to the new one: nothing is lost, what is new has the property, and there is one more
+-- than `max`
+pub record GrowsPast (max : ℕ) (P : Point → Type 0) (old new : List (List StructureForm)) : Type 0 where
+  pub kept : KeepsListed old new
+  pub one_more : ListsOneMore (length old) max (λ x. IsListed old x ⊎ P x) new
+
+-- what an error says of the listings before and after, where structures are met that have the property
+abbrev pub IsMeetStop : (max : ℕ) → (Point → Type 0) → (old new : List (List StructureForm)) → WorkError
     → Type 0
-IsMeetStop nodes max P listing Structures = ListsOneMore nodes max P listing
-IsMeetStop nodes max P listing Splits = ⊥
-IsMeetStop nodes max P listing Individuals = ⊥
-IsMeetStop nodes max P listing Memory = Unit {0}
+IsMeetStop max P old new Structures = GrowsPast max P old new
+IsMeetStop max P old new Splits = ⊥
+IsMeetStop max P old new Individuals = ⊥
+IsMeetStop max P old new Memory = Unit {0}
 
 -- and where the task's structures are met
 abbrev pub IsTaskStop : TaskForm → (listing : List (List StructureForm)) → WorkError → Type 0

@@ -6,7 +6,7 @@ use Rattle.tv_model.specs.Valid.{IsValid}
 use Rattle.tv_step.specs.EngineForm.{EngineForm}
 use Rattle.tv_structure_form.specs.StructureForm.{StructureForm, IsOver}
 use Rattle.tv_work.specs.Leaving.{AreLeaving}
-use Rattle.tv_work.specs.Reach.{Point, IsReached}
+use Rattle.tv_work.specs.Reach.{Point, IsReached, IsReachedWithin}
 use Rattle.tv_work.specs.declared.task.Task.{Task}
 
 -- a program, a mode and initial structures, and how many structures may be listed
@@ -22,6 +22,10 @@ task_of x = record { program = program_of x.program.now; mode = x.mode; initial 
 -- the points that are reached
 abbrev pub reached_in : TaskForm → Point → Type 0
 reached_in t = IsReached t.program t.mode t.initial
+
+-- those that are reached through listed ones
+abbrev pub reached_within : TaskForm → (listing : List (List StructureForm)) → Point → Type 0
+reached_within t = IsReachedWithin t.program t.mode t.initial
 
 -- the program is valid, the stepper is that of the program and the mode, the edges are listed by their
 -- sources, and the initial structures are over the vocabulary

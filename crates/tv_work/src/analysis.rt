@@ -110,8 +110,9 @@ fn answer(alloc: Global, found: Found) -> Result<Analysis, AllocError>
 
 /// All that abstract steps reach from the openings of the initial structures, listed by node, and the
 /// messages that may be true there; it names no maps. Where over `max` structures are reached, it stops, with
-/// what it listed until then: one more than `max` of these, which ones is left open. `Structures` is never
-/// the error, `Splits` and `Individuals` are only where the step of a reached structure meets that budget.
+/// what it listed until then: one more than `max` of these, each of which is reached through listed ones.
+/// `Structures` is never the error, `Splits` and `Individuals` are only where the step of a reached structure
+/// meets that budget.
 pub fn analyze_or_stop(
     alloc: Global,
     program: &Program,

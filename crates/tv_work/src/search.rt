@@ -1,6 +1,6 @@
 //! The worklist: what is listed so far, and what of it still waits to be followed.
 
-ghost use Rattle.std.specs.Prelude.{ℕ, ◌≡◌, ◌<◌, ◌≤◌, ◌⊎◌, [], ◌∷◌, ◌++◌, length, replicate, OnOk, OnErr};
+ghost use Rattle.std.specs.Prelude.{ℕ, ◌≡◌, ◌<◌, ◌≤◌, [], ◌∷◌, ◌++◌, length, replicate, OnOk, OnErr};
 ghost use Rattle.std.specs.Prelude.{IfOk, IfErr, IfSome, IfNone, Contains, Some, None, All, Any, slice_get};
 ghost use Rattle.tv_listing.specs.ListingForm.{at_node};
 ghost use Rattle.tv_structure_form.specs.StructureForm.{StructureForm, IsStructure};
@@ -77,9 +77,8 @@ impl Search {
         ensures only { OnOk result (ListsOnly (λ x. x ≡ record { node = node; structure = s }) self.old
             self.new) }
         ensures within { OnOk result (IsWithin max self.new) }
-        ensures cause { IfErr result
-            (IsMeetStop (length self.old.listing) max (λ x. IsListed self.old.listing x
-            ⊎ (x ≡ record { node = node; structure = s })) self.new.listing) }
+        ensures cause { IfErr result (IsMeetStop max (λ x. x ≡ record { node = node; structure = s })
+            self.old.listing self.new.listing) }
     {
         if !self.listing.add(node, s)? {
             return Ok(());
@@ -105,9 +104,8 @@ impl Search {
         ensures only { OnOk result (ListsOnly (λ x. (x.node ≡ node) × Contains found x.structure) self.old
             self.new) }
         ensures within { OnOk result (IsWithin max self.new) }
-        ensures cause { IfErr result
-            (IsMeetStop (length self.old.listing) max (λ x. IsListed self.old.listing x
-            ⊎ ((x.node ≡ node) × Contains found x.structure)) self.new.listing) }
+        ensures cause { IfErr result (IsMeetStop max (λ x. (x.node ≡ node) × Contains found x.structure)
+            self.old.listing self.new.listing) }
     {
         self.meet(node, only(found), max)
     }
@@ -123,9 +121,8 @@ impl Search {
         ensures only { OnOk result (ListsOnly (λ x. (x.node ≡ node) × Contains found x.structure) self.old
             self.new) }
         ensures within { OnOk result (IsWithin max self.new) }
-        ensures cause { IfErr result
-            (IsMeetStop (length self.old.listing) max (λ x. IsListed self.old.listing x
-            ⊎ ((x.node ≡ node) × Contains found x.structure)) self.new.listing) }
+        ensures cause { IfErr result (IsMeetStop max (λ x. (x.node ≡ node) × Contains found x.structure)
+            self.old.listing self.new.listing) }
     {
         if found.len() == 1 {
             return self.meet_only(node, found, max);

@@ -7,7 +7,8 @@ use Rattle.tv_openings.specs.Gaps.{IsGapIn}
 use Rattle.tv_structure_form.specs.StructureForm.{structure_of}
 use Rattle.tv_two_valued.specs.TwoValued.{heap_of}
 use Rattle.tv_heaps.specs.Listed.{wish_of}
-use Rattle.tv_heaps.proofs.ListedLaws.{bare_leaf, over_vocab, same_ahead, split_gap, split_leaf, two_valued_opening}
+use Rattle.tv_heaps.proofs.ListedLaws.{bare_leaf, over_vocab, same_ahead, split_gap, split_leaf}
+use Rattle.tv_heaps.proofs.ListedLaws.{two_valued_opening}
 use Rattle.tv_heaps.proofs.listed.sort_in.Goals as goal
 
 pub is_start_in-requires-clause-over : goal.is_start_in-requires-clause-over

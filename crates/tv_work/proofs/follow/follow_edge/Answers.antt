@@ -1,4 +1,4 @@
-use Rattle.std.proofs.Common.{◌≡◌, ◌⊎◌, length, refl, subst, Some, Contains}
+use Rattle.std.proofs.Common.{◌≡◌, refl, subst, Some, Contains}
 use Rattle.std.specs.Prelude.{All, slice_get}
 use Rattle.std.proofs.lemmas.Option.{slice_get_within}
 use Rattle.std.proofs.lemmas.Result.{err_from_is_err_and, on_ok_weaker}
@@ -15,10 +15,11 @@ use Rattle.tv_work.specs.Reach.{Point, IsListed}
 use Rattle.tv_work.specs.Search.{StandsFor}
 use Rattle.tv_work.specs.Stopped.{IsMeetStop, IsTaskStop}
 use Rattle.tv_work.specs.Task.{task_of, reached_in}
-use Rattle.tv_work.proofs.Advancing.{stands-listed, target_at, target-is, arrived-reached, arrived-kept}
+use Rattle.tv_work.proofs.Advancing.{stands-listed, target_at, target-is, arrived-within, arrived-kept}
 use Rattle.tv_work.proofs.Advancing.{does-along}
 use Rattle.tv_work.proofs.Causes.{ok-three, meet-stop, step-stop}
 use Rattle.tv_work.proofs.Saying.{values-few, noted-rises, noted-tells, said-kept, said-noted}
+use Rattle.tv_work.proofs.Within.{within-reached}
 use Rattle.tv_work.proofs.follow.follow_edge.Goals as goal
 
 pub stable_step-requires-clause-edge : goal.stable_step-requires-clause-edge
@@ -51,7 +52,7 @@ returns-in_err-out-clause-cause c =
       taken = c.requires.edge.0;
       is_edge = c.requires.edge.1;
       leaves = c.requires.edge.2;
-      has = c.requires.kept.reached x has;
+      has = within-reached t c.args.search.now.listing x (c.requires.kept.reached x has);
     }
     in let fault = c.in_err-out.field-0.0
     in let p = err_from_is_err_and c.from_residual.result c.from_residual.ensures.1
@@ -102,7 +103,7 @@ returns c =
     = record { taken = taken; is_edge = at; leaves = from; has = has }
     in let said = said-noted t old.listing x edge source ks values c.args.told.now told noted
     c.in_ok-note.ensures.count c.requires.said
-    in let P : Point → Type 0 = λ y. IsListed old.listing y ⊎ ((y.node ≡ to) × Contains rs y.structure)
+    in let P : Point → Type 0 = λ y. (y.node ≡ to) × Contains rs y.structure
     in record {
       kept = ok-three c.meet_all.result
           (arrived-kept t edge to taken x rs at from (enters taken at) results settled old new c.requires.kept has)
@@ -116,10 +117,10 @@ returns c =
           (λ met. does-along t c.args.w edge to x old new told rs stands enters results met
           (noted-tells edge ks c.args.told.now told noted t.program x.structure values) budgets)
           c.meet_all.ensures.has;
-      cause = IfErr-weaker c.meet_all.result (IsMeetStop (length old.listing) t.max P new.listing)
+      cause = IfErr-weaker c.meet_all.result (IsMeetStop t.max P old.listing new.listing)
           (IsTaskStop t new.listing)
-          (meet-stop t (length old.listing) P new.listing c.requires.kept.nodes
-          (arrived-reached t edge to taken x rs at from (enters taken at) results settled old c.requires.kept has))
+          (meet-stop t P old.listing new.listing c.requires.kept.nodes
+          (arrived-within t edge to taken x rs at from (enters taken at) results settled old c.requires.kept has))
           c.meet_all.ensures.cause;
       same = cc;
     }

@@ -1,4 +1,4 @@
-use Rattle.std.proofs.Common.{◌≡◌, ◌∙◌, ◌⊎◌, inl, inr, length, sym, subst, IfSome, IfNone}
+use Rattle.std.proofs.Common.{◌≡◌, ◌∙◌, inl, inr, sym, subst, IfSome, IfNone}
 use Rattle.std.proofs.lemmas.List.Elements.{All-contains}
 use Rattle.std.proofs.lemmas.Option.{none-some, same_Some}
 use Rattle.std.proofs.lemmas.Result.{on_ok_weaker}
@@ -12,7 +12,7 @@ use Rattle.tv_step_laws.specs.Transfer.{HasNoOpening, IsOpening}
 use Rattle.tv_work.specs.Reach.{Point, IsListed}
 use Rattle.tv_work.specs.Stopped.{IsMeetStop, IsTaskStop}
 use Rattle.tv_work.specs.Task.{task_of}
-use Rattle.tv_work.proofs.Advancing.{open-reached, open-kept}
+use Rattle.tv_work.proofs.Advancing.{open-within, open-kept}
 use Rattle.tv_work.proofs.Causes.{ok-three, meet-stop}
 use Rattle.tv_work.proofs.follow.open.Goals as goal
 
@@ -58,7 +58,7 @@ returns-in-Some c =
     in let settled : IsSettled p u
     = subst (λ (e : EngineForm). IsSettled (program_of e.program) u) is
     (subst (λ o. IfSome o (IsSettled own)) c.in-Some.is c.in_ok-opening.ensures.settled)
-    in let P : Point → Type 0 = λ x. IsListed old.listing x ⊎ (x ≡ record { node = 0; structure = u })
+    in let P : Point → Type 0 = λ x. x ≡ record { node = 0; structure = u }
     in record {
       kept = ok-three c.meet.result (open-kept t s u c.requires.initial opening settled old new c.requires.kept)
           c.meet.ensures.grows c.meet.ensures.only c.meet.ensures.within;
@@ -74,10 +74,10 @@ returns-in-Some c =
             any = inr (u, opening);
           })
           c.meet.ensures.has;
-      cause = IfErr-weaker c.meet.result (IsMeetStop (length old.listing) t.max P new.listing)
+      cause = IfErr-weaker c.meet.result (IsMeetStop t.max P old.listing new.listing)
           (IsTaskStop t new.listing)
-          (meet-stop t (length old.listing) P new.listing c.requires.kept.nodes
-          (open-reached t s u c.requires.initial opening settled old c.requires.kept))
+          (meet-stop t P old.listing new.listing c.requires.kept.nodes
+          (open-within t s u c.requires.initial opening settled old c.requires.kept))
           c.meet.ensures.cause;
       same = cc;
     }

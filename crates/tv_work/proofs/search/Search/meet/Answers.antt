@@ -2,9 +2,9 @@ use Rattle.std.proofs.Common.{◌≡◌, ◌<◌, ◌+◌, ◌-◌, length, refl
 use Rattle.tv_listing.specs.ListingForm.{at_node, appended, AddsAt}
 use Rattle.tv_work.specs.Reach.{Point, IsListed}
 use Rattle.tv_work.specs.Search.{SearchForm, Grows, IsSearch, IsWithin}
-use Rattle.tv_work.specs.Stopped.{ListsOneMore}
+use Rattle.tv_work.specs.Stopped.{GrowsPast}
 use Rattle.tv_work.specs.declared.search.Waiting.{Waiting}
-use Rattle.tv_work.proofs.Growing.{met-grows, listed-more, waiting-more, lists-one-more, equal-listed}
+use Rattle.tv_work.proofs.Growing.{met-grows, listed-more, waiting-more, grows-past, equal-listed}
 use Rattle.tv_work.proofs.Meeting.{listed-new, listed-cases}
 use Rattle.tv_work.proofs.search.Search.meet.Goals as goal
 
@@ -45,11 +45,10 @@ returns-then-self-max-clause-cause c =
     }
     in let added = subst (λ b. AddsAt old.listing c.add.new.self c.args.node c.args.s (Ok b))
     c.if-not-branch.false c.in_ok-add.ensures
-    in let P : SearchForm → Point → Type 0
-    = λ o x. IsListed o.listing x ⊎ (x ≡ record { node = c.args.node; structure = c.args.s })
-    in subst (λ (o : SearchForm). ListsOneMore (length o.listing) c.args.max (P o) c.add.new.self) c.self.view_is
-    (subst (ListsOneMore (length old.listing) c.args.max (P old)) (sym added.1)
-    (lists-one-more old c.args.node c.args.s (subst (λ (o : SearchForm). c.args.node < length o.listing)
+    in let P : Point → Type 0 = λ x. x ≡ record { node = c.args.node; structure = c.args.s }
+    in subst (λ (o : SearchForm). GrowsPast c.args.max P o.listing c.add.new.self) c.self.view_is
+    (subst (GrowsPast c.args.max P old.listing) (sym added.1)
+    (grows-past old c.args.node c.args.s (subst (λ (o : SearchForm). c.args.node < length o.listing)
     (sym c.self.view_is) c.requires.node) c.self.invariant c.requires.unmarked added.0 c.args.max
     (subst (IsWithin c.args.max) (sym c.self.view_is) c.requires.within) c.if-self-max.true))
 

@@ -1,11 +1,11 @@
-use Rattle.std.proofs.Common.{◌≡◌, ◌⊎◌, None, [], length, refl, subst, All}
+use Rattle.std.proofs.Common.{◌≡◌, None, [], refl, subst, All}
 use Rattle.std.specs.Prelude.{Contains}
 use Rattle.std.proofs.lemmas.List.Elements.{All-head}
 use Rattle.std.proofs.lemmas.Result.{on_ok_weaker, IfErr-weaker}
 use Rattle.tv_structure_form.specs.StructureForm.{StructureForm}
 use Rattle.tv_work.specs.Reach.{Point, IsListed}
 use Rattle.tv_work.specs.Stopped.{IsMeetStop}
-use Rattle.tv_work.proofs.Causes.{stop-weaker}
+use Rattle.tv_work.proofs.Causes.{stop-on}
 use Rattle.tv_work.proofs.Growing.{one-there, among-one}
 use Rattle.tv_work.proofs.search.Search.meet_only.Goals as goal
 
@@ -29,13 +29,11 @@ returns-clause-only c =
 
 pub returns-clause-cause : goal.returns-clause-cause
 returns-clause-cause c =
-    let P : Point → Type 0
-    = λ x. IsListed c.args.self.now.listing x ⊎ (x ≡ record { node = c.args.node; structure = c.only.result })
-    in let Q : Point → Type 0
-    = λ x. IsListed c.args.self.now.listing x ⊎ ((x.node ≡ c.args.node) × Contains c.args.found x.structure)
-    in let nodes = length c.args.self.now.listing
+    let P : Point → Type 0 = λ x. x ≡ record { node = c.args.node; structure = c.only.result }
+    in let Q : Point → Type 0 = λ x. (x.node ≡ c.args.node) × Contains c.args.found x.structure
+    in let old = c.args.self.now.listing
     in let new = c.meet.new.self.listing
-    in IfErr-weaker c.meet.result (IsMeetStop nodes c.args.max P new) (IsMeetStop nodes c.args.max Q new)
-    (stop-weaker nodes nodes c.args.max P Q new refl
+    in IfErr-weaker c.meet.result (IsMeetStop c.args.max P old new) (IsMeetStop c.args.max Q old new)
+    (stop-on c.args.max P Q old old new refl (λ x has. has)
     (among-one c.args.node c.args.found c.only.result c.args.self.now c.only.ensures))
     c.meet.ensures.cause

@@ -1,0 +1,16 @@
+//! What is asked of an analysis, or of its initial structures.
+
+/// A question on the files of an analysis.
+#[derive(Clone, Copy)]
+pub enum Question<'a> {
+    /// How the message of this number among those of the edge's action comes about.
+    Message { edge: u32, number: u32 },
+    /// How the structure at this place of the node of this name comes about.
+    Structure { node: &'a str, index: u32 },
+    /// What the analysis loses.
+    Losses,
+    /// What the step of each initial structure along the edge makes of it, stage by stage.
+    Step { edge: u32 },
+    /// How many structures are listed at each node.
+    Counts,
+}

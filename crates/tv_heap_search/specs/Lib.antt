@@ -1,5 +1,0 @@
-pub mod Quests
-pub mod Visited
-pub mod Levels
-pub mod Retraced
-pub mod Answers
