@@ -3,8 +3,8 @@
 heap of at most CELLS cells (3, unless it is said) that meets the rules, for all picked individuals. bench/updates.py PROGRAM CELLS INITIAL
 takes the heaps of so many cells that belong to a structure of INITIAL, and all that runs of at most CELLS cells make of them, each along the
 edges of its node. Both tell each update that isn't what the definition says afterwards, with a heap of the fewest cells, and of how many
-steps the new heap breaks a rule (those aren't steps of runs). Heaps are taken once, up to the names of their cells. It ends with 1 where an
-update differs."""
+steps the new heap breaks a rule (those aren't steps of runs); of runs also which step breaks which rule first. Heaps are taken once, up to
+the names of their cells. It ends with 1 where an update differs."""
 import collections, importlib.machinery, importlib.util, itertools, os, sys
 
 loader = importlib.machinery.SourceFileLoader("lint", os.path.join(os.path.dirname(os.path.dirname(os.path.abspath(__file__))), "tvla-lint"))
@@ -292,22 +292,29 @@ def structures(path):
 
 class Trial:
     def __init__(self, program):
-        self.program, self.counts, self.differs = program, collections.Counter(), {}
+        self.program, self.counts, self.differs, self.breaks = program, collections.Counter(), {}, {}
         self.actions = {call: Action(parts, program) for call, parts in program.edges}
 
     def step(self, call, heap, cells):
         """The heaps behind the step that meet the rules, each with its cells."""
         (name, *arguments), program = call, self.program
+        written = f"{name}({', '.join(arguments)})"
         for after, left, said in self.actions[call].steps(program, heap, cells):
             self.counts["steps"] += 1
             wrong = [it for it in said if said[it] != after[it]]
-            if program.first_broken(after, left, program.rules):
+            broken = program.first_broken(after, left, program.rules)
+            if broken:
+                self.note(self.breaks, (written, broken), heap, cells)
                 self.counts["steps that break a rule"] += 1
                 continue
             if wrong:
-                self.differs.setdefault((f"{name}({', '.join(arguments)})", wrong[0]), (len(cells), told(heap, program)))
+                self.note(self.differs, (written, wrong[0]), heap, cells)
                 self.counts["updates that differ"] += 1
             yield after, left
+
+    def note(self, where, what, heap, cells):
+        if what not in where or len(cells) < where[what][0]:
+            where[what] = len(cells), told(heap, self.program)
 
     def every_heap(self, most):
         for size in range(most + 1):
@@ -339,6 +346,8 @@ def main(path, most="3", *initial):
     trial.runs(int(most), *initial) if initial else trial.every_heap(int(most))
     for (call, name), (size, heap) in sorted(trial.differs.items(), key=lambda it: it[1][0]):
         print(f"{call}: the update of {name} differs, {size} cells: {heap or 'nothing holds'}")
+    for (call, rule), (size, heap) in sorted(trial.breaks.items() if initial else (), key=lambda it: it[1][0]):
+        print(f"{call}: a step breaks {rule}, {size} cells: {heap or 'nothing holds'}")
     print(f"{path}: " + ", ".join(f"{trial.counts[it]:,} {it}" for it in ("heaps", "steps", "steps that break a rule", "updates that differ")))
     return bool(trial.differs) or not trial.counts["heaps"]
 
