@@ -3,7 +3,7 @@
 heap of at most CELLS cells (3, unless it is said) that meets the rules, for all picked individuals. bench/updates.py PROGRAM CELLS INITIAL
 takes the heaps of so many cells that belong to a structure of INITIAL, and all that runs of at most CELLS cells make of them, each along the
 edges of its node. Both tell each update that isn't what the definition says afterwards, with a heap of the fewest cells, and of how many
-steps the new heap breaks a rule (those aren't steps of runs); of runs also which step breaks which rule first. Heaps are taken once, up to
+steps the new heap breaks a rule (those aren't steps of runs); along runs also which step breaks which rule. Heaps are taken once, up to
 the names of their cells. It ends with 1 where an update differs."""
 import collections, importlib.machinery, importlib.util, itertools, os, sys
 
@@ -251,8 +251,8 @@ class Action:
                     self.updates[text] = len(variables), compiled(formula, env, [*self.picked, *variables])[0]
 
     def steps(self, program, heap, cells):
-        """For all that may be picked, and all that free updates may give: the heap afterwards, its cells, and what the given updates of
-        defined predicates say."""
+        """For all that may be picked, and all that free updates may give: what is picked, the heap afterwards, its cells, and what the
+        given updates of defined predicates say."""
         fresh = next(u for u in range(len(cells) + 1) if u not in cells) if self.is_new else None
         middle = [*cells, fresh] if self.is_new else cells
         for picks in itertools.product(cells, repeat=len(self.picked)):
@@ -265,7 +265,7 @@ class Action:
                 given = {**said, **dict(zip(self.free, values))}
                 after = {name: given[name] if name in given else {at for at in heap[name] if set(at) <= set(left)} for name in program.core}
                 program.define(after, left, list(program.defined))
-                yield after, left, {name: it for name, it in said.items() if name in program.defined}
+                yield picks, after, left, {name: it for name, it in said.items() if name in program.defined}
 
 def told(heap, program):
     return ", ".join(f"{name} = {{{', '.join('->'.join(map(str, at)) for at in sorted(heap[name]))}}}" for name in program.core if heap[name])
@@ -296,21 +296,25 @@ class Trial:
         self.actions = {call: Action(parts, program) for call, parts in program.edges}
 
     def step(self, call, heap, cells):
-        """The heaps behind the step that meet the rules, each with its cells."""
+        """The heaps behind the step that meet the rules, each with its cells. Free updates give what the rules allow, so a rule is broken
+        where nothing that they may give for what is picked meets it."""
         (name, *arguments), program = call, self.program
-        written = f"{name}({', '.join(arguments)})"
-        for after, left, said in self.actions[call].steps(program, heap, cells):
-            self.counts["steps"] += 1
+        written, kept, breaks = f"{name}({', '.join(arguments)})", set(), {}
+        for picks, after, left, said in self.actions[call].steps(program, heap, cells):
             wrong = [it for it in said if said[it] != after[it]]
             broken = program.first_broken(after, left, program.rules)
             if broken:
-                self.note(self.breaks, (written, broken), heap, cells)
-                self.counts["steps that break a rule"] += 1
+                breaks.setdefault(picks, broken)
                 continue
+            kept.add(picks)
+            self.counts["steps"] += 1
             if wrong:
                 self.note(self.differs, (written, wrong[0]), heap, cells)
                 self.counts["updates that differ"] += 1
             yield after, left
+        for picks in breaks.keys() - kept:
+            self.note(self.breaks, (written, breaks[picks]), heap, cells)
+            self.counts["steps that break a rule"] += 1
 
     def note(self, where, what, heap, cells):
         if what not in where or len(cells) < where[what][0]:
