@@ -5,7 +5,7 @@ takes the heaps of so many cells that belong to a structure of INITIAL, and all 
 edges of its node. Both tell each update that isn't what the definition says afterwards, with a heap of the fewest cells, and of how many
 steps the new heap breaks a rule (those aren't steps of runs); along runs also which step breaks which rule. Heaps are taken once, up to
 the names of their cells. It ends with 1 where an update differs."""
-import collections, importlib.machinery, importlib.util, itertools, os, sys
+import collections, functools, importlib.machinery, importlib.util, itertools, os, sys
 
 loader = importlib.machinery.SourceFileLoader("lint", os.path.join(os.path.dirname(os.path.dirname(os.path.abspath(__file__))), "tvla-lint"))
 sys.dont_write_bytecode = True
@@ -113,6 +113,20 @@ def free(formula):
         return list(dict.fromkeys([*parts[0], *(it for it in free(parts[2]) if it not in parts[1])]))
     return list(dict.fromkeys(it for part in parts if isinstance(part, tuple) for it in free(part)))
 
+@functools.cache
+def orders(cells):
+    """All relations of these cells that are transitive and reflexive."""
+    if not cells:
+        return [set()]
+    *others, last = cells
+    found = []
+    for order in orders(tuple(others)):
+        for below, above in itertools.product(*2 * [[it for count in range(len(others) + 1) for it in itertools.combinations(others, count)]]):
+            grown = order | {(last, last)} | {(u, last) for u in below} | {(last, u) for u in above}
+            if all((u, w) in grown for u, v in grown for x, w in grown if v == x):
+                found.append(grown)
+    return found
+
 class Program:
     def __init__(self, path):
         self.core, self.defined, self.rules, names = {}, {}, [], {}
@@ -162,6 +176,8 @@ class Program:
             return [set(), *({(u,)} for u in cells)]
         if arity == 2 and "function" in properties:
             return [{(u, v) for u, v in zip(cells, to) if v is not None} for to in itertools.product([None, *cells], repeat=len(cells))]
+        if {"transitive", "reflexive"} <= {*properties}:
+            return orders(tuple(cells))
         tuples = list(itertools.product(cells, repeat=arity))
         return [set(some) for count in range(len(tuples) + 1) for some in itertools.combinations(tuples, count)]
 
@@ -202,7 +218,8 @@ class Program:
             def values(name, cells):
                 tuples = list(itertools.product(cells, repeat=self.core[name][0]))
                 fits = [it for it in tuples if allows(name, it, True)]
-                if "function" in self.core[name][1] or "unique" in self.core[name][1]:
+                properties = {*self.core[name][1]}
+                if properties & {"function", "unique"} or properties >= {"transitive", "reflexive"}:
                     found = (it for it in self.values(name, cells) if it <= set(fits))
                 else:
                     sure = [it for it in fits if not allows(name, it, False)]
