@@ -1,7 +1,7 @@
 #!/usr/bin/env python3
 """Tries the updates that a program gives for its defined predicates: bench/updates.py PROGRAM [CELLS] takes each edge's action from every
-heap of at most CELLS cells (3, unless it is said) that meets the rules, for all picked individuals. bench/updates.py PROGRAM CELLS INITIAL
-takes the heaps of so many cells that belong to a structure of INITIAL, and all that runs of at most CELLS cells make of them, each along the
+heap of at most CELLS cells (3, unless it is said) that meets the rules and makes no message of the action true, for all picked individuals.
+bench/updates.py PROGRAM CELLS INITIAL takes the heaps of so many cells that belong to a structure of INITIAL, and all that runs of at most CELLS cells make of them, each along the
 edges of its node. Both tell each update that isn't what the definition says afterwards, with a heap of the fewest cells, and of how many
 steps the new heap breaks a rule (those aren't steps of runs); along runs also which step breaks which rule. Heaps are taken once, up to
 the names of their cells. It ends with 1 where an update differs."""
@@ -253,6 +253,7 @@ class Action:
             of[word].append((part, env))
         self.is_new, self.kept, self.free, self.updates = "%new" in of, None, [], {}
         self.picked, self.allows = [], lambda *_: True
+        self.messages = [compiled(formula, env, [])[0] for formula, env in of["%message"]]
         for formula, env in of["%p"]:
             self.picked = free(formula)
             self.allows = compiled(formula, env, self.picked)[0]
@@ -341,9 +342,10 @@ class Trial:
         for size in range(most + 1):
             for heap in self.program.heaps(list(range(size))):
                 self.counts["heaps"] += 1
-                for call in self.actions:
-                    for _ in self.step(call, heap, list(range(size))):
-                        pass
+                cells = list(range(size))
+                for call, action in self.actions.items():
+                    if not any(is_true(heap, cells, None) for is_true in action.messages):
+                        collections.deque(self.step(call, heap, cells), 0)
 
     def runs(self, most, initial):
         waiting, met = collections.deque(), set()
