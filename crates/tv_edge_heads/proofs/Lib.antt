@@ -1,8 +1,9 @@
 mod Written
-mod Rows
-mod Ends
-mod FormulaEnds
-mod ProgramEnds
+pub mod Rows
+pub mod Ends
+pub mod FormulaEnds
+pub mod ProgramEnds
 mod WidthLaws
 mod Standing
-mod OnLines
+pub mod OnLines
+mod OneHeads

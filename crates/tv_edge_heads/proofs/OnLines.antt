@@ -31,7 +31,7 @@ edge_word t ts rest e h =
     at_some (first word_item (t ∷ ts)) (λ x. is_word t.kind ≡ true) (e.from, h.0) (word_kind t ts) h.3
 
 -- the first byte of a token, where it has one
-first_byte : (text : List ℕ) (start n : ℕ) → 0 < length (take n (drop start text))
+pub first_byte : (text : List ℕ) (start n : ℕ) → 0 < length (take n (drop start text))
     → (start < length text) × (get_or (take n (drop start text)) 0 0 ≡ get_or text start 0)
 first_byte text start zero some = absurd (omega (arith, some))
 first_byte [] zero (suc n) some = absurd (omega (arith, some))

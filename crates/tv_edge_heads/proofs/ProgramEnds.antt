@@ -23,7 +23,7 @@ use Rattle.tv_edge_heads.proofs.FormulaEnds.{word_ends, formula_ends}
 -- ---- items in a row
 
 -- what stands behind an item is the end of the tokens, where the item is
-abbrev LeavesEnd : (whole : List SpecToken) → {X : Type 0} → (List SpecToken → X → List SpecToken → Type 0) → Type 0
+abbrev pub LeavesEnd : (whole : List SpecToken) → {X : Type 0} → (List SpecToken → X → List SpecToken → Type 0) → Type 0
 LeavesEnd whole {X} Item = (ts : List SpecToken) (x : X) (rest : List SpecToken) → Item ts x rest → Ends whole ts
     → Ends whole rest
 
@@ -68,7 +68,7 @@ mutual
   front_ends whole (SMinus s t) ts rest h at =
       term_ends whole t h.1 rest h.4 (after_ends whole (codes "-") h.0 h.1 h.3 (front_ends whole s ts h.0 h.2 at))
 
-head_ends : (whole ts rest : List SpecToken) (var : List ℕ) (s : SetForm) → IsHead ts var s rest → Ends whole ts → Ends whole rest
+pub head_ends : (whole ts rest : List SpecToken) (var : List ℕ) (s : SetForm) → IsHead ts var s rest → Ends whole ts → Ends whole rest
 head_ends whole ts rest var s (us, vs, ws, xs, ys, a, b, c, d, e, f) at =
     let named = word_ends whole us vs var b (after_ends whole (codes "(") ts us a at) in
     let members = front_ends whole s ws xs d.0 (after_ends whole (codes "in") vs ws c named) in
@@ -113,7 +113,7 @@ optional_ends : (whole : List SpecToken) (mark : List ℕ) (ts us : List SpecTok
 optional_ends whole mark ts us (inl h) at = after_ends whole mark ts us h at
 optional_ends whole mark ts us (inr h) at = subst (Ends whole) (sym h.1) at
 
-decl_ends : (whole : List SpecToken) → LeavesEnd whole (λ ts d rest. IsDecl ts d rest)
+pub decl_ends : (whole : List SpecToken) → LeavesEnd whole (λ ts d rest. IsDecl ts d rest)
 decl_ends whole ts (DSet w s) rest (us, vs, ws, a, b, c, d) at =
     let named = word_ends whole us vs w b (first_ends whole decl_kind ts us _ a at) in
     front_ends whole s ws rest d.0 (optional_ends whole (codes "=") vs ws c named)

@@ -1,3 +1,4 @@
 pub mod EdgePlaces
 pub mod Widths
 pub mod Heads
+pub mod Laws

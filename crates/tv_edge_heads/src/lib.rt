@@ -2,6 +2,8 @@
 #![tactic(auto)]
 
 mod heads;
+mod laws;
 mod places;
 
 pub use heads::{edge_heads, head_at};
+pub use laws::heads_are_one;
