@@ -3,29 +3,26 @@ use Rattle.std.proofs.Common.{ℕ, suc, ◌-◌, ◌<◌, length, get_or, ◌≡
 use Rattle.std.proofs.Common.{subst, ◌∙◌, arith}
 use Rattle.std.proofs.Common.{Contains}
 use Rattle.std.specs.Prelude.{All, Any, IfNone, Option, slice_get}
-use Rattle.std.proofs.lemmas.Option.{same_Some}
 use Rattle.tv_kleene.specs.declared.K3.{K3}
-use Rattle.tv_kleene.specs.declared.K3.TheVariants.{No}
 use Rattle.tv_listing.specs.ListingForm.{at_node}
 use Rattle.tv_listing.specs.declared.analysis.MessageLine.{MessageLine}
+use Rattle.tv_model.specs.declared.program.Edge.{Edge}
 use Rattle.tv_model.specs.declared.program.Mode.{Mode}
 use Rattle.tv_model.specs.declared.program.Vocab.{Vocab}
 use Rattle.tv_model.specs.Program.{ProgramForm}
-use Rattle.tv_model.specs.Valid.{IsValid}
 use Rattle.tv_model.proofs.Lists.{slice_get-contains}
 use Rattle.tv_structure_form.specs.StructureForm.{StructureForm, IsOver, IsStructure}
 use Rattle.tv_struct.specs.declared.analysis.StageError.{StageError}
 use Rattle.tv_step_laws.specs.Budgets.{IsStepCause}
-use Rattle.tv_step_laws.specs.Laws.{StepsAreExact}
-use Rattle.tv_step_laws.specs.Transfer.{AreMessageValues, IsMessageValue, IsOpening}
+use Rattle.tv_step_laws.specs.Transfer.{IsMessageValue, IsOpening}
 use Rattle.tv_trail.specs.Over.{IsTrailOver}
-use Rattle.tv_trail_laws.specs.Trails.{IsRaisedAt, IsShortest, IsTrailTo, LeadOn}
+use Rattle.tv_trail_laws.specs.Trails.{HasValueAt, IsShortest, IsTrailTo, LeadOn}
 use Rattle.tv_trail_laws.specs.declared.trail.Link.{Link}
 use Rattle.tv_trail_laws.specs.declared.trail.Trail.{Trail}
 use Rattle.tv_work.specs.Analyzed.{IsAnalysis, IsWorkCause, work_error}
 use Rattle.tv_work.proofs.Causes.{step-cause}
-use Rattle.tv_work.specs.Reach.{Point, IsReached, IsStartPoint}
-use Rattle.tv_trail.specs.Reasons.{IsRaisedBy, last_from, last_of}
+use Rattle.tv_work.specs.Reach.{Point, IsReached, Leads}
+use Rattle.tv_trail.specs.Reasons.{last_from, last_of}
 
 -- ---- the last structure
 
@@ -61,78 +58,59 @@ module _ (p : ProgramForm) (mode : Mode) (initial : List StructureForm) where
   pub trail-last : (trail : Trail) (y : Point) → IsTrailTo p mode initial trail y → last_of trail ≡ y.structure
   trail-last trail y is = last-is (record { node = 0; structure = trail.opening }) trail.links y is.leads
 
-  -- and it is reached
-  reached-on : (x : Point) (links : List Link) (y : Point) → IsReached p mode initial x → LeadOn p mode x links y
-      → IsReached p mode initial y
-  reached-on x [] y reached e = subst (IsReached p mode initial) e reached
-  reached-on x (link ∷ links) y reached (taken, leads, rest) =
-      reached-on (record { node = taken.to; structure = link.structure }) links y (record {
-        before = x ∷ reached.before;
-        derivation = ((link.edge, taken, leads), reached.derivation);
-      }) rest
-
-  pub trail-reached : (trail : Trail) (y : Point) → IsTrailTo p mode initial trail y → IsReached p mode initial y
-  trail-reached trail y is = reached-on (record { node = 0; structure = trail.opening }) trail.links y start is.leads
+  -- where a trail opens is reached
+  pub opening-reached : (trail : Trail) (y : Point) → IsTrailTo p mode initial trail y
+      → IsReached p mode initial (record { node = 0; structure = trail.opening })
+  opening-reached trail y is = record {
+    before = [];
+    derivation = record {
+      node = refl;
+      opens = opened (slice_get-contains initial trail.initial is.first is.is_first);
+    };
+  }
     where
       opened : Contains initial is.first → Any (λ s. IsOpening p s trail.opening) initial
       opened (k, within, at) = (k, is.first, within, at, is.opens)
 
-      start : IsReached p mode initial (record { node = 0; structure = trail.opening })
-      start = record {
-        before = [];
-        derivation = record {
-          node = refl;
-          opens = opened (slice_get-contains initial trail.initial is.first is.is_first);
-        };
-      }
+  -- so is where a link leads
+  pub link-reached : (x : Point) (link : Link) (taken : Edge) → IsReached p mode initial x
+      → Leads p mode link.edge taken x (record { node = taken.to; structure = link.structure })
+      → IsReached p mode initial (record { node = taken.to; structure = link.structure })
+  link-reached x link taken reached leads = record {
+    before = x ∷ reached.before;
+    derivation = ((link.edge, taken, leads), reached.derivation);
+  }
 
-  -- a step there that meets a budget is the cause of a search's
-  pub end-cause : (max edge number : ℕ) (trail : Trail)
-      → IsShortest p mode initial (IsRaisedAt p edge number) trail → (s : StructureForm) → s ≡ last_of trail
-      → (fault : StageError) → IsStepCause p edge s fault
-      → IsWorkCause p max (IsReached p mode initial) (work_error fault)
-  end-cause max edge number trail shortest s same fault cause =
-      step-cause p max edge (IsReached p mode initial) shortest.last (record {
-        taken = shortest.is_goal.leaves.0;
-        is_edge = shortest.is_goal.leaves.1;
-        leaves = shortest.is_goal.leaves.2;
-        has = trail-reached trail shortest.last shortest.is_trail;
-      }) fault
-      (subst (λ t. IsStepCause p edge t fault) (same ∙ trail-last trail shortest.last shortest.is_trail) cause)
+  reached-on : (x : Point) (links : List Link) (y : Point) → IsReached p mode initial x → LeadOn p mode x links y
+      → IsReached p mode initial y
+  reached-on x [] y reached e = subst (IsReached p mode initial) e reached
+  reached-on x (link ∷ links) y reached (taken, leads, rest) =
+      reached-on (record { node = taken.to; structure = link.structure }) links y
+      (link-reached x link taken reached leads) rest
 
-  -- ---- the value there
+  pub trail-reached : (trail : Trail) (y : Point) → IsTrailTo p mode initial trail y → IsReached p mode initial y
+  trail-reached trail y is =
+      reached-on (record { node = 0; structure = trail.opening }) trail.links y (opening-reached trail y is) is.leads
 
-  module _ (exact : StepsAreExact) (valid : IsValid p) (edge number : ℕ) (trail : Trail)
-      (shortest : IsShortest p mode initial (IsRaisedAt p edge number) trail)
-      (values : List K3) (are : AreMessageValues p edge (last_of trail) values) where
-    value-there : slice_get values number ≡ Some shortest.is_goal.value
-    value-there = by shortest.is_goal.is_value
-      where
-        same : last_of trail ≡ shortest.last.structure
-        same = trail-last trail shortest.last shortest.is_trail
+  module _ (edge number : ℕ) (trail : Trail) (k : K3)
+      (shortest : IsShortest p mode initial (HasValueAt p edge number k) trail) where
+    -- a step there that meets a budget is the cause of a search's
+    pub end-cause : (max : ℕ) (fault : StageError) → IsStepCause p edge (last_of trail) fault
+        → IsWorkCause p max (IsReached p mode initial) (work_error fault)
+    end-cause max fault cause =
+        step-cause p max edge (IsReached p mode initial) shortest.last (record {
+          taken = shortest.is_goal.leaves.0;
+          is_edge = shortest.is_goal.leaves.1;
+          leaves = shortest.is_goal.leaves.2;
+          has = trail-reached trail shortest.last shortest.is_trail;
+        }) fault
+        (subst (λ t. IsStepCause p edge t fault) (trail-last trail shortest.last shortest.is_trail) cause)
 
-        by : IsMessageValue p edge shortest.last.structure number shortest.is_goal.value
-            → slice_get values number ≡ Some shortest.is_goal.value
-        by (ks, too, at) =
-            let one : values ≡ ks = (exact p valid shortest.last.structure).values edge values ks
-            (subst (λ s. AreMessageValues p edge s values) same are) too
-            in ap (λ vs. slice_get vs number) one ∙ at
-
-    pub raised-never-none : {P : Type 0} → None ≡ slice_get values number → P
-    raised-never-none e = absurd (none-some (e ∙ value-there))
-      where
-        none-some : {k : K3} → None ≡ Some k → ⊥
-        none-some h = cc
-
-    pub raised-there : (value : K3) → Some value ≡ slice_get values number
-        → IsRaisedBy p mode initial edge number trail value
-    raised-there value e =
-        let same : value ≡ shortest.is_goal.value = same_Some value shortest.is_goal.value (e ∙ value-there)
-        in record {
-          shortest = shortest;
-          is_value = (values, are, sym e);
-          some = λ no. shortest.is_goal.some (sym same ∙ no);
-        }
+    -- the message has its value there
+    pub value-there : IsMessageValue p edge (last_of trail) number k
+    value-there =
+        subst (λ t. IsMessageValue p edge t number k) (sym (trail-last trail shortest.last shortest.is_trail))
+        shortest.is_goal.is_value
 
 -- ---- a listed structure
 
