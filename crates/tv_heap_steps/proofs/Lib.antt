@@ -1,0 +1,3 @@
+pub mod ChosenLaws
+pub mod StepLaws
+pub mod SettledLaws
