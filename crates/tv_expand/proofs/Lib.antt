@@ -10,4 +10,5 @@ pub mod SetTests
 pub mod IdleLaws
 pub mod ApartLaws
 pub mod CallLaws
+pub mod OriginLaws
 pub mod LimitLaws

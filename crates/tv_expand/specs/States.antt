@@ -8,6 +8,7 @@ use Rattle.tv_expand.specs.declared.block.Block.{Block as BlockSoFar}
 use Rattle.tv_expand.specs.declared.gather.Gathered.{Gathered as GatheredSoFar}
 use Rattle.tv_expand.specs.declared.wiring.Wired.{Wired as WiredSoFar}
 use Rattle.tv_expand.specs.Expansion.{Room, Declared, Block, Gathered, Wired}
+use Rattle.tv_expand.specs.Origins.{Noted}
 use Rattle.tv_expand.specs.Views.{sets_of, calls_of}
 
 abbrev pub room_of : RoomLeft → Room
@@ -21,6 +22,9 @@ declared_of d =
       rules = map rule_of d.rules.items;
       room = room_of d.room;
     }
+
+abbrev pub noted_of : DeclaredSoFar → Noted
+noted_of d = record { declared = declared_of d; origins = d.origins.items }
 
 abbrev pub block_of : BlockSoFar → Block
 block_of s = record { updates = map update_of s.updates.items; room = room_of s.room }

@@ -8,6 +8,7 @@ mod error;
 mod gather;
 mod idle;
 mod laws;
+mod marks;
 mod room;
 mod sets;
 mod whole;
@@ -15,6 +16,6 @@ mod wiring;
 mod words;
 
 pub use error::ExpandError;
-pub use laws::limits_are_exact;
+pub use laws::{each_rule_has_origin, limits_are_exact};
 pub use tv_flat::{Flat, FlatAction, FlatEdge};
-pub use whole::expand;
+pub use whole::{Expanded, expand, expand_marked};
