@@ -19,6 +19,14 @@ pair_value s p u w lt =
 pub row_length : (s : StructureForm) (p u : ℕ) → length (row_at s p u) ≡ s.size
 row_length s p u = length-map-range_with_len (λ w. value_at s p (u ∷ w ∷ [])) 0 s.size
 
+-- and of a unary predicate
+pub single_value : (s : StructureForm) (p u : ℕ) → u < s.size → slice_index_or (unary_row s p) u No ≡ value_at s p (u ∷ [])
+single_value s p u lt =
+    get_or-map-range_with_len (λ v. value_at s p (v ∷ [])) 0 s.size u u No (omega (arith, lt)) (omega arith)
+
+pub singles_length : (s : StructureForm) (p : ℕ) → length (unary_row s p) ≡ s.size
+singles_length s p = length-map-range_with_len (λ u. value_at s p (u ∷ [])) 0 s.size
+
 -- the line of a unary predicate
 pub unary_line : (s : StructureForm) (p arity : ℕ) (text name : List ℕ) (row : List K3) → text ≡ name → arity ≡ 1
     → row ≡ unary_row s p

@@ -1,10 +1,12 @@
 -- The text of a row is the texts of its items, joined.
-use Rattle.std.proofs.Common.{ℕ, ◌≡◌, ◌<◌, ◌≤◌, ◌+◌, ◌-◌, zero, suc, Bool, true, false, ◌||◌, if◌then◌else◌}
-use Rattle.std.proofs.Common.{List, [], ◌∷◌, ◌++◌, map, Some, None, refl, sym, ap, ◌∙◌, arith, length}
+use Rattle.std.proofs.Common.{ℕ, ◌≡◌, ◌≢◌, ◌<◌, ◌≤◌, ◌+◌, ◌-◌, ◌*◌, zero, suc, if◌then◌else◌, cond, ⊎_elim, min}
+use Rattle.std.proofs.Common.{List, [], ◌∷◌, ◌++◌, map, Some, None, refl, sym, ap, ◌∙◌, arith, length, take, subst}
 use Rattle.std.proofs.Common.{append_assoc}
-use Rattle.std.specs.Prelude.{codes, slice_index_or, replicate, drop}
+use Rattle.std.specs.Prelude.{codes, slice_index_or}
 use Rattle.std.specs.List.{flat_map, range_with_len}
-use Rattle.std.proofs.lemmas.List.{append-nil, map-append, length-replicate, get_or-replicate}
+use Rattle.std.proofs.lemmas.Bool.{cases_lt, lt-ltb, le-ltb}
+use Rattle.std.proofs.lemmas.List.{append-nil, map-append, length-append, get_or_past}
+use Rattle.std.proofs.Math.Seq.{take-append_seam}
 use Rattle.std.proofs.lemmas.List.FromFn.{length-map-range_with_len, get_or-map-range_with_len}
 use Rattle.std.proofs.lemmas.Grind.{flat_map-append}
 use Rattle.std.proofs.lemmas.List.Folds.{flat_map-map}
@@ -14,9 +16,11 @@ use Rattle.tv_kleene.specs.declared.K3.TheVariants.{No, Half, Yes}
 use Rattle.tv_tvs.specs.Tree.{ItemTree}
 use Rattle.tv_tvs.specs.Canonical.{individual, individuals, written_one, written_items, row_items, tuples}
 use Rattle.tv_tvs.specs.Canonical.{item_text}
-use Rattle.tv_tvs.specs.Canonical.{more_texts, comma_text, line_text, if_some}
-use Rattle.tv_tvs.specs.Rows.{behind, row_text, comma, pair_prefix, single_items, pair_items}
-use Rattle.tv_tvs.specs.Rows.{are_some, begun_text, beginning}
+use Rattle.tv_tvs.specs.Canonical.{comma_text, line_text, if_some}
+use Rattle.tv_tvs.specs.Rows.{behind, listed_name, row_text, word_text, pair_prefix, single_items, pair_items}
+use Rattle.tv_tvs.specs.Rows.{ended_texts, line_front}
+use Rattle.tv_row.specs.Bits.{padded, is_certain}
+use Rattle.tv_row.proofs.WordOps.{get_or-padded}
 use Rattle.tv_tvs.proofs.Written.{turn, singles_written, row_written, rows_written}
 
 -- ---- a walk over the individuals of which something is written
@@ -47,20 +51,6 @@ pub one_further : {X : Type 0} (f : ℕ → List X) (from u : ℕ) (text : List 
 one_further f from u text le none so_far =
     turn f [] text 0 u u (omega arith) (none_until f from u text le none so_far)
 
--- the same behind other texts
-pub none_behind : {X : Type 0} (f : ℕ → List X) (before : List X) (from end : ℕ) (text : List X) → from ≤ end
-    → ((c : ℕ) → from ≤ c → c < end → f c ≡ []) → text ≡ before ++ flat_map f (range_with_len 0 from)
-    → text ≡ before ++ flat_map f (range_with_len 0 end)
-none_behind f before from end text le none so_far =
-    so_far ∙ ap (λ t. before ++ t) (none_until f from end (flat_map f (range_with_len 0 from)) le none refl)
-
-pub one_behind : {X : Type 0} (f : ℕ → List X) (before : List X) (from u : ℕ) (text : List X) → from ≤ u
-    → ((c : ℕ) → from ≤ c → c < u → f c ≡ []) → text ≡ before ++ flat_map f (range_with_len 0 from)
-    → text ++ f u ≡ before ++ flat_map f (range_with_len 0 (u + 1))
-one_behind f before from u text le none so_far =
-    ap (λ t. t ++ f u) so_far ∙ append_assoc before (flat_map f (range_with_len 0 from)) (f u)
-    ∙ ap (λ t. before ++ t) (one_further f from u (flat_map f (range_with_len 0 from)) le none refl)
-
 -- what is written of a word stands behind what is of those before it
 word_further : {X : Type 0} (f g : ℕ → List X) (base n : ℕ) → ((i : ℕ) → i < n → g i ≡ f (base + i))
     → flat_map f (range_with_len 0 base) ++ flat_map g (range_with_len 0 n) ≡ flat_map f (range_with_len 0 (base + n))
@@ -77,48 +67,84 @@ word_further f g base (suc n) same =
     ∙ turn f [] (flat_map f (range_with_len 0 (base + n))) 0 (base + n) (base + n) (omega arith) refl
     ∙ ap (λ m. flat_map f (range_with_len 0 m)) e2
 
-pub word_behind : (prefix : List ℕ) (values word : List K3) (first count end : ℕ) (before text : List ℕ) → first + count ≡ end
-    → ((i : ℕ) → i < count → slice_index_or word i No ≡ slice_index_or values (first + i) No)
-    → before ≡ flat_map (λ u. behind prefix u (slice_index_or values u No)) (range_with_len 0 first)
-    → text ≡ before ++ flat_map (λ i. behind prefix (first + i) (slice_index_or word i No)) (range_with_len 0 count)
-    → text ≡ flat_map (λ u. behind prefix u (slice_index_or values u No)) (range_with_len 0 end)
-word_behind prefix values word first count end before text at same so_far put =
-    put ∙ ap (λ t. t ++ flat_map (λ i. behind prefix (first + i) (slice_index_or word i No)) (range_with_len 0 count)) so_far
-    ∙ word_further (λ u. behind prefix u (slice_index_or values u No)) (λ i. behind prefix (first + i) (slice_index_or word i No)) first count
-    (λ i less. ap (behind prefix (first + i)) (same i less))
-    ∙ ap (λ m. flat_map (λ u. behind prefix u (slice_index_or values u No)) (range_with_len 0 m)) at
+pub word_behind : (prefix : List ℕ) (values word : List K3) (chunk : ℕ) (initial before text : List ℕ)
+    → ((i : ℕ) → i < 64 → slice_index_or word i No ≡ slice_index_or values (64 * chunk + i) No)
+    → before ≡ initial ++ flat_map (λ u. behind prefix u (slice_index_or values u No)) (range_with_len 0 (64 * chunk))
+    → text ≡ before ++ word_text prefix (64 * chunk) word
+    → text ≡ initial ++ flat_map (λ u. behind prefix u (slice_index_or values u No)) (range_with_len 0 (64 * (chunk + 1)))
+word_behind prefix values word chunk initial before text same so_far put =
+    let f : ℕ → List ℕ = λ u. behind prefix u (slice_index_or values u No)
+    in let further : 64 * chunk + 64 ≡ 64 * (chunk + 1) = omega arith
+    in put ∙ ap (λ t. t ++ word_text prefix (64 * chunk) word) so_far
+    ∙ append_assoc initial (flat_map f (range_with_len 0 (64 * chunk))) (word_text prefix (64 * chunk) word)
+    ∙ ap (λ t. initial ++ t) (word_further f (λ i. behind prefix (64 * chunk + i) (slice_index_or word i No)) (64 * chunk) 64
+    (λ i less. ap (behind prefix (64 * chunk + i)) (same i less))
+    ∙ ap (λ m. flat_map f (range_with_len 0 m)) further)
+
+-- behind the last value nothing is written
+pub row_whole : (prefix : List ℕ) (values : List K3) (end : ℕ) (initial text : List ℕ) → length values ≤ end
+    → text ≡ initial ++ flat_map (λ u. behind prefix u (slice_index_or values u No)) (range_with_len 0 end)
+    → text ≡ initial ++ row_text prefix values
+row_whole prefix values end initial text all so_far =
+    let f : ℕ → List ℕ = λ u. behind prefix u (slice_index_or values u No)
+    in let more : length values + (end - length values) ≡ end = omega (arith, all)
+    in so_far ∙ ap (λ t. initial ++ t) (ap (λ m. flat_map f (range_with_len 0 m)) (sym more)
+    ∙ skipped f (length values) (end - length values) (λ c low less. ap (behind prefix c) (get_or_past values c No low)))
+
+-- the values of a word that is cut at the last one
+pub word_cut : (values word cut : List K3) (first count : ℕ) → length word ≡ 64 → first < length values
+    → count ≡ min (length values - first) 64 → cut ≡ padded count word
+    → ((i : ℕ) → i < 64 → first + i < length values → slice_index_or word i No ≡ slice_index_or values (first + i) No)
+    → (i : ℕ) → i < 64 → slice_index_or cut i No ≡ slice_index_or values (first + i) No
+word_cut values word cut first count long some counted is same i low =
+    let few : count ≤ 64 = omega (arith, counted)
+    in ap (λ ks. slice_index_or ks i No) is ∙ get_or-padded count word i few long low
+    ∙ ⊎_elim
+    (λ before. ap (λ t. cond t (slice_index_or word i No) No) (lt-ltb i count before)
+    ∙ same i low (omega (arith, before, counted, some)))
+    (λ after. ap (λ t. cond t (slice_index_or word i No) No) (le-ltb i count after)
+    ∙ sym (get_or_past values (first + i) No (omega (arith, after, counted, low))))
+    (cases_lt i count)
+
+-- an individual that is put down with its value
+pub item_behind : (prefix : List ℕ) (u : ℕ) (k : K3) → k ≢ No
+    → prefix ++ (if is_certain k then listed_name u else (individual u ++ codes ":1/2, ")) ≡ behind prefix u k
+item_behind prefix u No other = absurd (other refl)
+item_behind prefix u Half other = refl
+item_behind prefix u Yes other = refl
 
 -- ---- the texts of items
 
-single_text : (u : ℕ) (k : K3) → more_texts (map item_text (written_one u None k)) ≡ behind comma u k
+single_text : (u : ℕ) (k : K3) → ended_texts (map item_text (written_one u None k)) ≡ behind [] u k
 single_text u No = refl
-single_text u Half = append-nil _
-single_text u Yes = append-nil _ ∙ ap (λ t. comma ++ t) (append-nil _)
+single_text u Half = append-nil _ ∙ append_assoc (individual u) (codes ":1/2") (codes ", ")
+single_text u Yes = append-nil _ ∙ ap (λ t. t ++ codes ", ") (append-nil (individual u))
 
-pair_parts : (a b c d e : List ℕ) → (a ++ (b ++ ((c ++ d) ++ e))) ++ [] ≡ (a ++ (b ++ c)) ++ (d ++ e)
-pair_parts a b c d e =
-    append-nil _ ∙ ap (λ t. a ++ (b ++ t)) (append_assoc c d e) ∙ ap (λ t. a ++ t) (sym (append_assoc b c (d ++ e)))
-    ∙ sym (append_assoc a (b ++ c) (d ++ e))
+pair_parts : (a c v : List ℕ)
+    → ((a ++ ((codes "->" ++ c) ++ v)) ++ codes ", ") ++ [] ≡ (a ++ codes "->") ++ (c ++ (v ++ codes ", "))
+pair_parts a c v =
+    append-nil _ ∙ append_assoc a (codes "->" ++ (c ++ v)) (codes ", ")
+    ∙ ap (λ t. a ++ (codes "->" ++ t)) (append_assoc c v (codes ", "))
+    ∙ sym (append_assoc a (codes "->") (c ++ (v ++ codes ", ")))
 
-pair_text : (u w : ℕ) (k : K3) → more_texts (map item_text (written_one u (Some w) k)) ≡ behind (pair_prefix u) w k
+pair_text : (u w : ℕ) (k : K3) → ended_texts (map item_text (written_one u (Some w) k)) ≡ behind (pair_prefix u) w k
 pair_text u w No = refl
-pair_text u w Half = pair_parts comma (individual u) (codes "->") (individual w) (codes ":1/2")
-pair_text u w Yes =
-    pair_parts comma (individual u) (codes "->") (individual w) [] ∙ ap (λ t. pair_prefix u ++ t) (append-nil _)
+pair_text u w Half = pair_parts (individual u) (individual w) (codes ":1/2")
+pair_text u w Yes = pair_parts (individual u) (individual w) []
 
-joined : (g : ℕ → List ItemTree) (f : ℕ → List ℕ) → ((u : ℕ) → more_texts (map item_text (g u)) ≡ f u)
-    → (us : List ℕ) → more_texts (map item_text (flat_map g us)) ≡ flat_map f us
+joined : (g : ℕ → List ItemTree) (f : ℕ → List ℕ) → ((u : ℕ) → ended_texts (map item_text (g u)) ≡ f u)
+    → (us : List ℕ) → ended_texts (map item_text (flat_map g us)) ≡ flat_map f us
 joined g f same [] = refl
 joined g f same (u ∷ us) =
-    ap more_texts (map-append item_text (g u) (flat_map g us))
-    ∙ flat_map-append (λ text. codes ", " ++ text) (map item_text (g u)) (map item_text (flat_map g us))
+    ap ended_texts (map-append item_text (g u) (flat_map g us))
+    ∙ flat_map-append (λ text. text ++ codes ", ") (map item_text (g u)) (map item_text (flat_map g us))
     ∙ (λ i. same u i ++ joined g f same us i)
 
-pub singles_text : (values : List K3) → row_text comma values ≡ more_texts (map item_text (single_items values))
+pub singles_text : (values : List K3) → row_text [] values ≡ ended_texts (map item_text (single_items values))
 singles_text values = sym (joined _ _ (λ u. single_text u (slice_index_or values u No)) (range_with_len 0 (length values)))
 
 pub pairs_text : (u : ℕ) (values : List K3)
-    → row_text (pair_prefix u) values ≡ more_texts (map item_text (pair_items u values))
+    → row_text (pair_prefix u) values ≡ ended_texts (map item_text (pair_items u values))
 pairs_text u values = sym (joined _ _ (λ w. pair_text u w (slice_index_or values w No)) (range_with_len 0 (length values)))
 
 -- ---- rows of values that are read off
@@ -154,76 +180,76 @@ pub no_singles : (values : List K3) → ((u : ℕ) → u < length values → sli
     → single_items values ≡ []
 no_singles values none = none_of (λ u k. written_one u None k) (λ u. refl) values none
 
--- the names of individuals, as a row that is Yes everywhere
-pub names_text : (size : ℕ) → row_text comma (replicate size Yes) ≡ more_texts (individuals size)
-names_text size =
-    ap (λ n. flat_map (λ u. behind comma u (slice_index_or (replicate size Yes) u No)) (range_with_len 0 n)) (length-replicate size Yes)
-    ∙ flat_map-range _ (λ u. codes ", " ++ individual u) 0 size (λ k low less. ap (behind comma k) (get_or-replicate size k Yes No (omega (arith, less))))
-    ∙ sym (flat_map-map (λ t. codes ", " ++ t) individual (range_with_len 0 size))
-
 -- ---- lines
 
-pub begins : (name : List ℕ) (items : List ItemTree)
-    → beginning name (more_texts (map item_text items)) ≡ begun_text name items
-begins name [] = refl
-begins name (item ∷ items) = refl
+two : length (codes ", ") ≡ 2
+two = refl
 
-pub some_texts : (items : List ItemTree) → are_some (more_texts (map item_text items)) ≡ are_some items
-some_texts [] = refl
-some_texts (item ∷ items) = refl
+ended_of : (text : List ℕ) (texts : List (List ℕ)) → ended_texts (text ∷ texts) ≡ comma_text (text ∷ texts) ++ codes ", "
+ended_of text [] = append-nil _ ∙ sym (ap (λ t. t ++ codes ", ") (append-nil text))
+ended_of text (next ∷ texts) =
+    ap (λ t. (text ++ codes ", ") ++ t) (ended_of next texts)
+    ∙ append_assoc text (codes ", ") (comma_text (next ∷ texts) ++ codes ", ")
+    ∙ sym (append_assoc text (codes ", " ++ comma_text (next ∷ texts)) (codes ", "))
 
-pub some_either : {X : Type 0} (xs ys : List X) → are_some (xs ++ ys) ≡ (are_some xs || are_some ys)
-some_either [] ys = refl
-some_either (x ∷ xs) ys = refl
+-- the last comma and blank taken away
+cut_two : (old text texts : List ℕ) → text ≡ old ++ (texts ++ codes ", ") → take (length text - 2) text ≡ old ++ texts
+cut_two old text texts is =
+    let whole : text ≡ (old ++ texts) ++ codes ", " = is ∙ sym (append_assoc old texts (codes ", "))
+    in let less : length text - 2 ≡ length (old ++ texts)
+    = omega (arith, ap length whole, length-append (old ++ texts) (codes ", "), two)
+    in ap (λ n. take n text) less ∙ ap (take (length (old ++ texts))) whole ∙ take-append_seam (old ++ texts) (codes ", ")
 
-four : (a b c d e : List ℕ) → (a ++ (b ++ (c ++ d))) ++ e ≡ a ++ (b ++ (c ++ (d ++ e)))
-four a b c d e =
-    append_assoc a (b ++ (c ++ d)) e ∙ ap (λ t. a ++ t) (append_assoc b (c ++ d) e ∙ ap (λ t. b ++ t) (append_assoc c d e))
+line_parts : (old name texts : List ℕ) → ((old ++ line_front name) ++ texts) ++ codes "}\n"
+    ≡ old ++ (codes "  " ++ (name ++ (codes " = {" ++ ((texts ++ codes "}") ++ codes "\n"))))
+line_parts old name texts =
+    append_assoc (old ++ line_front name) texts (codes "}\n") ∙ append_assoc old (line_front name) (texts ++ codes "}\n")
+    ∙ ap (λ t. old ++ (codes "  " ++ t)) (append_assoc name (codes " = {") (texts ++ codes "}\n")
+    ∙ ap (λ t. name ++ (codes " = {" ++ t)) (sym (append_assoc texts (codes "}") (codes "\n"))))
 
--- further items of a line that may be begun
-pub begun_more : (name : List ℕ) (items others : List ItemTree)
-    → begun_text name items ++ (if are_some items then more_texts (map item_text others) else begun_text name others)
-    ≡ begun_text name (items ++ others)
-begun_more name [] others = refl
-begun_more name (item ∷ items) others =
-    four (codes "  ") name (codes " = {") (comma_text (map item_text (item ∷ items))) (more_texts (map item_text others))
-    ∙ ap (λ t. codes "  " ++ (name ++ (codes " = {" ++ t))) (append_assoc (item_text item) (more_texts (map item_text items)) (more_texts (map item_text others))
-    ∙ ap (λ t. item_text item ++ t) (sym (flat_map-append (λ text. codes ", " ++ text) (map item_text items) (map item_text others))
-    ∙ ap more_texts (sym (map-append item_text items others))))
+-- what a line is once it is ended, whatever is asked of it
+pub line_ended : (old text name : List ℕ) (items : List ItemTree) (start from : ℕ) (Asked : List ℕ → Type 0)
+    → start ≡ length old → from ≡ length (old ++ line_front name)
+    → text ≡ (old ++ line_front name) ++ ended_texts (map item_text items)
+    → (length text ≡ from → Asked (take start text))
+    → (from + 2 ≤ length text → Asked (take (length text - 2) text ++ codes "}\n"))
+    → Asked (old ++ line_text name (if_some items))
+line_ended old text name [] start from Asked begun front_end whole none some =
+    let bare : text ≡ old ++ line_front name = whole ∙ append-nil (old ++ line_front name)
+    in subst Asked
+    (ap (λ n. take n text) begun ∙ ap (take (length old)) bare ∙ take-append_seam old (line_front name) ∙ sym (append-nil old))
+    (none (ap length bare ∙ sym front_end))
+line_ended old text name (item ∷ items) start from Asked begun front_end whole none some =
+    let texts = comma_text (map item_text (item ∷ items))
+    in let parted : text ≡ (old ++ line_front name) ++ (texts ++ codes ", ")
+    = whole ∙ ap (λ t. (old ++ line_front name) ++ t) (ended_of (item_text item) (map item_text items))
+    in let long : from + 2 ≤ length text = omega (
+      arith,
+      front_end,
+      ap length parted,
+      length-append (old ++ line_front name) (texts ++ codes ", "),
+      length-append texts (codes ", "),
+      two,
+    )
+    in subst Asked (ap (λ t. t ++ codes "}\n") (cut_two (old ++ line_front name) text texts parted) ∙ line_parts old name texts)
+    (some long)
 
--- the end of a line
-pub line_ends : (name : List ℕ) (items : List ItemTree)
-    → begun_text name items ++ (if are_some items then codes "}\n" else []) ≡ line_text name (if_some items)
-line_ends name [] = refl
-line_ends name (item ∷ items) =
-    four (codes "  ") name (codes " = {") (comma_text (map item_text (item ∷ items))) (codes "}\n")
-    ∙ ap (λ t. codes "  " ++ (name ++ (codes " = {" ++ t))) (sym (append_assoc (comma_text (map item_text (item ∷ items))) (codes "}") (codes "\n")))
+-- ---- the names of individuals
 
--- a line whose items are one row
-pub line_of_row : (out name texts : List ℕ) (begun : Bool) (items : List ItemTree) → texts ≡ more_texts (map item_text items)
-    → begun ≡ are_some texts
-    → (out ++ beginning name texts) ++ (if begun then codes "}\n" else []) ≡ out ++ line_text name (if_some items)
-line_of_row out name texts begun items same told =
-    ap (λ b. (out ++ beginning name texts) ++ (if b then codes "}\n" else [])) (told ∙ ap are_some same ∙ some_texts items)
-    ∙ ap (λ t. (out ++ t) ++ (if are_some items then codes "}\n" else [])) (ap (beginning name) same ∙ begins name items)
-    ∙ append_assoc out (begun_text name items) (if are_some items then codes "}\n" else [])
-    ∙ ap (λ t. out ++ t) (line_ends name items)
+pub names_told : (count : ℕ) → flat_map listed_name (range_with_len 0 count) ≡ ended_texts (individuals count)
+names_told count = sym (flat_map-map (λ t. t ++ codes ", ") individual (range_with_len 0 count))
 
--- the items of a row of a line that may be begun
-pub row_begins : (begun : Bool) (name texts : List ℕ) (items : List ItemTree) → texts ≡ more_texts (map item_text items)
-    → (if begun then texts else beginning name texts)
-    ≡ (if begun then more_texts (map item_text items) else begun_text name items)
-row_begins true name texts items same = same
-row_begins false name texts items same = ap (beginning name) same ∙ begins name items
+pub no_names : (count : ℕ) (old text : List ℕ) → count ≡ 0 → text ≡ old ++ flat_map listed_name (range_with_len 0 count)
+    → text ≡ old ++ comma_text (individuals count)
+no_names zero old text none is = is
+no_names (suc n) old text none is = absurd (omega (arith, none))
 
--- names without the first comma
-pub without_comma : (names : List (List ℕ)) → drop 2 (more_texts names) ≡ comma_text names
-without_comma [] = refl
-without_comma (name ∷ names) = refl
-
-pub names_line : (size : ℕ) (texts : List ℕ) → texts ≡ row_text comma (replicate size Yes)
-    → drop 2 texts ≡ comma_text (individuals size)
-names_line size texts same = ap (drop 2) (same ∙ names_text size) ∙ without_comma (individuals size)
+pub names_cut : (count : ℕ) (old text : List ℕ) → 0 < count → text ≡ old ++ flat_map listed_name (range_with_len 0 count)
+    → take (length text - 2) text ≡ old ++ comma_text (individuals count)
+names_cut zero old text some is = absurd (omega (arith, some))
+names_cut (suc n) old text some is =
+    cut_two old text (comma_text (individuals (suc n)))
+    (is ∙ ap (λ t. old ++ t) (names_told (suc n) ∙ ended_of (individual 0) (map individual (range_with_len 1 n))))
 
 -- ---- the rows of a binary predicate, one after the other
 
@@ -234,33 +260,22 @@ one_row_more : (value : List ℕ → K3) (size u : ℕ)
     → rows_so_far value size u ++ row_items value size u ≡ rows_so_far value size (u + 1)
 one_row_more value size u = turn (row_items value size) [] (rows_so_far value size u) 0 u u (omega arith) refl
 
-pub pairs_turn : (value : List ℕ → K3) (size u : ℕ) (name initial out : List ℕ) (begun : Bool) (row : List K3)
+pub pairs_turn : (value : List ℕ → K3) (size u : ℕ) (before out : List ℕ) (row : List K3)
     → row ≡ map (λ w. value (u ∷ w ∷ [])) (range_with_len 0 size)
-    → out ≡ initial ++ begun_text name (rows_so_far value size u) → begun ≡ are_some (rows_so_far value size u)
-    → out ++ (if begun then more_texts (map item_text (pair_items u row)) else begun_text name (pair_items u row))
-    ≡ initial ++ begun_text name (rows_so_far value size (u + 1))
-pairs_turn value size u name initial out begun row same so_far told =
-    (λ i. so_far i ++ (if told i then more_texts (map item_text (pair_items u (same i))) else begun_text name (pair_items u (same i))))
-    ∙ ap (λ xs. (initial ++ begun_text name (rows_so_far value size u))
-    ++ (if are_some (rows_so_far value size u) then more_texts (map item_text xs) else begun_text name xs)) (pair_items_of value size u)
-    ∙ append_assoc initial (begun_text name (rows_so_far value size u)) _
-    ∙ ap (λ t. initial ++ t) (begun_more name (rows_so_far value size u) (row_items value size u)
-    ∙ ap (begun_text name) (one_row_more value size u))
+    → out ≡ before ++ ended_texts (map item_text (rows_so_far value size u))
+    → out ++ row_text (pair_prefix u) row ≡ before ++ ended_texts (map item_text (rows_so_far value size (u + 1)))
+pairs_turn value size u before out row same so_far =
+    let texts : List ItemTree → List ℕ = λ items. ended_texts (map item_text items)
+    in let earlier = rows_so_far value size u
+    in let next = row_items value size u
+    in ap (λ t. out ++ t) (pairs_text u row ∙ ap (λ r. texts (pair_items u r)) same ∙ ap texts (pair_items_of value size u))
+    ∙ ap (λ t. t ++ texts next) so_far ∙ append_assoc before (texts earlier) (texts next)
+    ∙ ap (λ t. before ++ t) (sym (flat_map-append (λ text. text ++ codes ", ") (map item_text earlier) (map item_text next))
+    ∙ ap ended_texts (sym (map-append item_text earlier next)) ∙ ap texts (one_row_more value size u))
 
-pub begun_turn : (value : List ℕ → K3) (size u : ℕ) (begun : Bool) (row : List K3)
-    → row ≡ map (λ w. value (u ∷ w ∷ [])) (range_with_len 0 size) → begun ≡ are_some (rows_so_far value size u)
-    → (begun || are_some (pair_items u row)) ≡ are_some (rows_so_far value size (u + 1))
-begun_turn value size u begun row same told =
-    (λ i. told i || are_some (pair_items u (same i)))
-    ∙ ap (λ xs. are_some (rows_so_far value size u) || are_some xs) (pair_items_of value size u)
-    ∙ sym (some_either (rows_so_far value size u) (row_items value size u)) ∙ ap are_some (one_row_more value size u)
-
-pub rows_end : (value : List ℕ → K3) (size count : ℕ) (name initial out : List ℕ) (begun : Bool) → count ≡ size
-    → out ≡ initial ++ begun_text name (rows_so_far value size count) → begun ≡ are_some (rows_so_far value size count)
-    → out ++ (if begun then codes "}\n" else []) ≡ initial ++ line_text name (if_some (written_items value (tuples 2 size)))
-rows_end value size count name initial out begun all so_far told =
-    (λ i. so_far i ++ (if told i then codes "}\n" else []))
-    ∙ append_assoc initial (begun_text name (rows_so_far value size count)) _
-    ∙ ap (λ t. initial ++ t) (line_ends name (rows_so_far value size count)
-    ∙ ap (λ n. line_text name (if_some (rows_so_far value size n))) all
-    ∙ ap (λ items. line_text name (if_some items)) (rows_written value size))
+pub rows_end : (value : List ℕ → K3) (size count : ℕ) (before out : List ℕ) → count ≡ size
+    → out ≡ before ++ ended_texts (map item_text (rows_so_far value size count))
+    → out ≡ before ++ ended_texts (map item_text (written_items value (tuples 2 size)))
+rows_end value size count before out all so_far =
+    so_far ∙ ap (λ n. before ++ ended_texts (map item_text (rows_so_far value size n))) all
+    ∙ ap (λ items. before ++ ended_texts (map item_text items)) (rows_written value size)

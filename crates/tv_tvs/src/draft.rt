@@ -1,10 +1,14 @@
 //! The text of a structure, put together in room that is kept for the next one.
 
 ghost use Rattle.std.specs.Prelude.{ℕ, ◌≡◌, ◌++◌, ◌+◌, ◌^◌, ◌<◌, ◌≤◌, [], length, take, OnOk};
+ghost use Rattle.tv_tvs.specs.Rows.{word_text};
 
+use crate::individuals::Individuals;
+use crate::row::{ROOM, place_word};
 use crate::short::ShortText;
 use std::alloc::{AllocError, Global};
 use std::marker::Model;
+use tv_row::Word;
 
 /// How much room is made beyond what is wanted.
 const MORE: usize = 4096;
@@ -113,6 +117,40 @@ impl Draft {
         self.room.as_mut_slice()[self.end..end].copy_from_slice(bytes);
         self.end = end;
         Ok(())
+    }
+
+    /// Puts down those of 64 individuals from `first` on whose values aren't `No`, each behind the prefix,
+    /// with the value.
+    pub fn put_word(
+        &mut self,
+        names: &Individuals,
+        prefix: &ShortText,
+        first: u32,
+        values: Word,
+    ) -> Result<(), AllocError>
+        requires { first + 64 ≤ 256 }
+        ensures { OnOk result (self.new ≡ self.old ++ word_text prefix.now first values) }
+    {
+        make_room(&mut self.room, self.end, ROOM)?;
+        let room = &mut self.room.as_mut_slice()[self.end..];
+        let count = place_word(room, names, prefix, first, values);
+        self.end += count;
+        Ok(())
+    }
+
+    /// How many bytes the text has.
+    pub fn len(&self) -> usize
+        ensures { result ≡ length self.now }
+    {
+        self.end
+    }
+
+    /// Keeps that many bytes of the text, and no more.
+    pub fn cut(&mut self, len: usize)
+        requires { len ≤ length self.old }
+        ensures { self.new ≡ take len self.old }
+    {
+        self.end = len;
     }
 
     /// The text.

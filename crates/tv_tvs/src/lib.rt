@@ -4,11 +4,12 @@
 mod build;
 mod draft;
 mod error;
+mod individuals;
 mod laws;
-mod line;
 mod names;
 mod numbers;
 mod read;
+mod row;
 mod short;
 mod syntax;
 mod write;

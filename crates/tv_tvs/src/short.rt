@@ -51,12 +51,13 @@ impl ShortText {
     }
 }
 
-/// What is written behind an individual whose value is unknown.
-pub(crate) fn half() -> ShortText
-    ensures { result ≡ codes ":1/2" }
+/// What stands behind the name of an individual whose value is unknown.
+#[inline(always)]
+pub(crate) fn unknown() -> ShortText
+    ensures { result ≡ codes ":1/2, " }
 {
     ShortText {
-        bytes: [b':', b'1', b'/', b'2', 0, 0, 0, 0],
-        size: 4,
+        bytes: [b':', b'1', b'/', b'2', b',', b' ', 0, 0],
+        size: 6,
     }
 }

@@ -1,7 +1,0 @@
-use Rattle.std.proofs.Common.{◌≡◌, map}
-use Rattle.std.specs.List.{range_with_len}
-use Rattle.tv_tvs.specs.Canonical.{individual}
-use Rattle.tv_tvs.proofs.write.all_names.Given as goal
-
-abbrev pub invariant-loop-u : goal.invariant-loop-u
-invariant-loop-u l = l.names.items ≡ map individual (range_with_len 0 l.u)
