@@ -76,6 +76,16 @@ row("the same, --delta, by an action that turns what they rest on", 511)(
     lambda size: analyze(texts.fan(size, 190) + texts.TURN, EMPTY, "--delta"))
 
 
+@row("500 definitions of 100 atoms and a closure over the next one, --delta, 100 actions", 500)
+def _(count):
+    preds = "%p c()\n%p b()\n%p n(v, w)\n"
+    for k in range(count):
+        under = f"d{k + 1}()" if k + 1 < count else "b()"
+        preds += f"%i d{k}() = " + "c() | " * 100 + f"(E(v) TC(v, v)(x, y) {under})\n"
+    edges = "".join(f"L T(x{k}) M\n" for k in range(100))
+    return analyze(preds + "%%\n%action T(x) { { b() = !b() } }\n%%\n" + edges, EMPTY, "--delta")
+
+
 def in_branches(levels, times, leaf, path=""):
     """So many files, each of which includes the next one so often; the first by a path."""
     names = [f"f{k}" for k in range(levels)]

@@ -448,7 +448,55 @@ def some_blocks(rng):
     return words + ["--max-structures", rng.choice(["20", "200", "2000"])], files
 
 
+def some_report(rng):
+    """A report whose structures have unknown values at different places; it covers some of what it has to."""
+    flags = rng.randrange(1, 12)
+    cells = rng.choice([[], [], ["u"], ["u", "w"]])
+    value = lambda: rng.choice(["", "", " = 1", " = 1/2", " = 1/2"])
+    items = lambda: ", ".join(u + rng.choice(["", "", ":1/2"]) for u in cells if rng.random() < 0.5)
+
+    def structure(more):
+        nullary = [f"f{k}{told}" for k in range(flags) for told in [value()] if told]
+        unary = [f"{name} = {{{items()}}}" for name in "xy" if cells]
+        sums = [f"sm = {{{u}:1/2}}" for u in cells[1:] if rng.random() < 0.3]
+        return "%n = {" + ", ".join(cells) + "} %p = { " + " ".join([*nullary, *unary, *sums, *more]) + " }\n"
+
+    declared = "".join(f"%p f{k}()\n" for k in range(flags)) + "%p g()\n%p x(v)\n%p y(v) nonabs\n"
+    update = rng.choice(["g() = !g()", "g() = 1/2", f"f0() = f{flags - 1}()", "x(v) = y(v)"])
+    program = declared + "%%\n%action F() { { " + update + " } }\n%%\nL F() M\n"
+    listed = [structure([]) for _ in range(some(rng, 60))]
+    after = [structure(rng.choice([[], ["g = 1"], ["g = 1/2"]])) for _ in range(some(rng, 60))]
+    known = [text.replace(" }\n", " g = 1 }\n") for text in listed] if rng.random() < 0.5 else []
+    blocks = [(name, list(dict.fromkeys(texts))) for name, texts in (("L", listed), ("M", after + known))]
+    report = "".join(f"node {name} structures {len(texts)}\n{''.join(texts)}" for name, texts in blocks)
+    initial = "".join(rng.sample(listed, rng.randrange(min(3, len(listed)) + 1)))
+    return check(program, initial, f"tvla report 2\n{report}end\n", *rng.choice([[], [], ["--maps"]]))
+
+
+def some_loops(rng):
+    """Rules, updates and captions that foreach and arguments multiply, some with names that aren't declared."""
+    words = [f"m{k}" for k in range(some(rng, 12))]
+    names = rng.choice([["q"], ["q", "r[{0}]"], ["r[{0}]", "r[{0},{0}]"]])
+    sets = "%s M {" + ", ".join(words) + "}\n" + rng.choice(["", "%s N M\n", "%s N M - {m0}\n"])
+    over = ["M", "N"] if "%s N" in sets else ["M"]
+    declared = "%p b()\n%p q(v)\nforeach (m in M) { %p r[m](v) }\n"
+    name = lambda: rng.choice(names).format("z0")
+    rule = f"%r b() & {name()}(v) ==> {rng.choice(['', '!'])}{name()}(v)"
+    deep = rng.randrange(1, 4)
+    rules = "".join(f"foreach (z{k} in {rng.choice(over)}) {{ " for k in range(deep)) + rule + " }" * deep + "\n"
+    caption = "%t " + " + ".join(rng.choice(['a', '"is"', "v"]) for _ in range(some(rng, 200))) + " "
+    action = "%action F(a) { " + rng.choice(["", caption, '%message b() -> "to " + a '])
+    action += rng.choice(["", "{ b() = !b() }", "{ foreach (z0 in M) { r[z0](v) = q(v) } }"]) + " }\n"
+    edges = "".join(f"L F({rng.choice(words)}) {rng.choice('LM')}\n" for _ in range(some(rng, 40)))
+    program = sets + declared + rules + "%%\n" + action + "%%\n" + edges
+    if rng.random() < 0.4:
+        trace = "".join(f"step {rng.randrange(3)}\n" for _ in range(some(rng, 50)))
+        return replay(program, rng.choice([EMPTY, ONE]), trace)
+    return some_call(rng, program, rng.choice([EMPTY, ONE]))
+
+
 def some_text(rng):
     """A text that is deep or wide: chains of definitions, formulas, updates that differencing makes high, many
-    actions, steps of a replay, blocks."""
-    return rng.choice([some_chain] * 4 + [some_deep] * 3 + [some_wide] * 2 + [some_higher, some_steps, some_blocks])(rng)
+    actions, steps of a replay, blocks, reports of many structures, what foreach multiplies."""
+    kinds = [some_chain] * 4 + [some_deep] * 3 + [some_wide, some_report, some_loops] * 2
+    return rng.choice(kinds + [some_higher, some_steps, some_blocks])(rng)

@@ -10,5 +10,6 @@ mod Pushed
 mod QuantifiedLaws
 mod Touches
 mod Updates
+mod UseLists
 mod Zips
 mod Copies

@@ -1,5 +1,5 @@
 -- Flags are set for what is changed, and for what rests on it.
-use Rattle.std.proofs.Common.{ℕ, ◌≡◌, ◌≢◌, ◌∙◌, ◌⊎◌, ◌+◌, ◌<◌, Bool, true, false, List, [], ◌∷◌, Option, Some}
+use Rattle.std.proofs.Common.{ℕ, ◌≡◌, ◌≢◌, ◌∙◌, ◌+◌, ◌<◌, Bool, true, false, List, [], ◌∷◌, Option, Some}
 use Rattle.std.proofs.Common.{None, length, set, get_or, zero, suc, inl, inr, ⊎_elim, refl, sym, ap, subst}
 use Rattle.std.proofs.Common.{arith}
 use Rattle.std.specs.Prelude.{slice_get, is_some}
@@ -13,8 +13,10 @@ use Rattle.tv_model.specs.Truth.{IsWalk}
 use Rattle.tv_delta_laws.specs.Deltas.{is_flagged}
 use Rattle.tv_delta_laws.specs.Differences.{IsChanged, DefinedBy, IsAffected, AreAffected}
 use Rattle.tv_delta_laws.proofs.Differenced.{core-kind}
-use Rattle.tv_delta.specs.Flags.{rests, rests_pred, rests_at, changed_from, MentionsAt, AreMarked}
+use Rattle.tv_delta.specs.Flags.{rests, rests_pred, rests_at, changed_from, MentionsAt, RestsOld, IsMarking, AreMarked}
+use Rattle.tv_delta.specs.Flags.{AreMentionLists, tells}
 use Rattle.tv_delta.proofs.Touches.{Touched, touched, touching}
+use Rattle.tv_delta.proofs.UseLists.{lists_tell}
 
 -- ---- what rests on a flagged predicate
 
@@ -53,18 +55,6 @@ set-there : (flags : List Bool) (q r : ℕ) → r ≢ q → is_flagged (set flag
 set-there flags q r apart =
     get-flag (set flags q true) r ∙ get_or-set_other flags q r true false apart ∙ sym (get-flag flags r)
 
--- the new flag is set for what was flagged, or for what rests on it
-abbrev pub RestsOld : List PredForm → List Bool → ℕ → Type 0
-RestsOld preds old q =
-    (is_flagged old q ≡ true)
-    ⊎ ((r : ℕ) × (stops : List ℕ) × (is_flagged old r ≡ true) × IsWalk (MentionsAt preds) q stops r)
-
--- what stays true as flags are set
-pub record IsMarking (preds : List PredForm) (old new : List Bool) : Type 0 where
-  pub one_each : length new ≡ length old
-  pub sound : (q : ℕ) → is_flagged new q ≡ true → RestsOld preds old q
-  pub kept : (q : ℕ) → is_flagged old q ≡ true → is_flagged new q ≡ true
-
 goes-on : (preds : List PredForm) (old : List Bool) (q r : ℕ) → MentionsAt preds q r → RestsOld preds old r
     → RestsOld preds old q
 goes-on preds old q r it was =
@@ -87,6 +77,27 @@ marking_more preds old new q is below on = record {
     here r same =
         let At : ℕ → Type 0 = λ n. RestsOld preds old n
         in subst At (sym same) (goes-on preds old q its.0 its.1 (is.sound its.0 its.2))
+
+-- what was flagged at first
+pub marking_none : (preds : List PredForm) (old : List Bool) → IsMarking preds old old
+marking_none preds old = record { one_each = refl; sound = λ q on. inl on; kept = λ q on. on }
+
+pub marking_by : (preds : List PredForm) (lists : List (List ℕ)) (old new : List Bool) (q : ℕ) → AreMentionLists preds lists
+    → IsMarking preds old new → q < length new → tells new (slice_get lists q) ≡ true
+    → IsMarking preds old (set new q true)
+marking_by preds lists old new q are is below on =
+    marking_more preds old new q is below (lists_tell preds lists are new q ∙ on)
+
+-- where no list has a flagged predicate of which the flag isn't set, no definition is left
+pub marked_by : (preds : List PredForm) (lists : List (List ℕ)) (old new : List Bool) → AreMentionLists preds lists
+    → IsMarking preds old new
+    → ((q : ℕ) → tells new (slice_get lists q) ≡ true → is_flagged new q ≡ true) → AreMarked preds old new
+marked_by preds lists old new are is none = record {
+  one_each = is.one_each;
+  sound = is.sound;
+  kept = is.kept;
+  closed = λ q on. none q (sym (lists_tell preds lists are new q) ∙ on);
+}
 
 -- ---- the flags of an action
 

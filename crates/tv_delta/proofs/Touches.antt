@@ -1,5 +1,5 @@
 -- Which formulas mention a flagged predicate.
-use Rattle.std.proofs.Common.{ℕ, ◌≡◌, ◌∙◌, ◌⊎◌, Bool, true, false, List, inl, inr, ⊎_elim, refl, sym, ap}
+use Rattle.std.proofs.Common.{ℕ, ◌≡◌, ◌∙◌, Bool, true, List, inl, inr, ⊎_elim, refl, sym, ap}
 use Rattle.std.specs.Prelude.{◌||◌}
 use Rattle.std.proofs.lemmas.Bool.{false≢true, or_cases}
 pub use Rattle.std.proofs.lemmas.Bool.{or_left as or-first, or_right as or-second}

@@ -17,6 +17,7 @@ use crate::kinds::Difference;
 use crate::lowest::work_out;
 use crate::memo::{Memo, empty};
 use crate::opening::{Opening, delta_of, kept};
+use crate::uses::Uses;
 use std::alloc::{AllocError, Global};
 use tv_delta_form::{Delta, Stop, atom, own_variables, small_put, stored_update};
 use tv_delta_laws::{kept_predicates_stay, updates_tell_the_truth};
@@ -193,7 +194,8 @@ pub fn difference(
     updates_tell_the_truth();
     kept_predicates_stay();
     let action = &program.actions.as_slice()[action as usize];
-    let affected = affected_flags(alloc, program, action)?;
+    let uses = Uses::new(alloc, program.vocab.preds.as_slice())?;
+    let affected = affected_flags(alloc, program, &uses, action)?;
     let a = Affecting {
         program,
         action,

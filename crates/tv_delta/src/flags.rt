@@ -1,14 +1,15 @@
 //! Which predicates an action affects: those that it changes, and those whose definitions rest on such.
 
-ghost use Rattle.std.specs.Prelude.{ℕ, ◌≡◌, ◌+◌, ◌≤◌, ◌<◌, ◌++◌, Some, true, false, length, map, is_some};
+ghost use Rattle.std.specs.Prelude.{ℕ, Bool, List, ◌≡◌, ◌+◌, ◌≤◌, ◌<◌, ◌++◌, Some, true, false, length, map, is_some};
 ghost use Rattle.std.specs.Prelude.{slice_get, option_map, option_copied, IfSome, IfNone, IfOk, OnOk};
 ghost use Rattle.tv_model.specs.Form.{form_of};
-ghost use Rattle.tv_model.specs.Program.{program_of, action_of, pred_of, kind_of, update_of, is_core_kind};
+ghost use Rattle.tv_model.specs.Program.{PredForm, program_of, action_of, pred_of, kind_of, update_of, is_core_kind};
 ghost use Rattle.tv_model.specs.Step.{update_for};
 ghost use Rattle.tv_delta_laws.specs.Deltas.{is_flagged, touches};
 ghost use Rattle.tv_delta_laws.specs.Differences.{AreAffected};
-ghost use Rattle.tv_delta.specs.Flags.{rests, rests_at, changed_from, AreMarked};
+ghost use Rattle.tv_delta.specs.Flags.{changed_from, tells, AreMarked, AreMentionLists, IsMarking};
 
+use crate::uses::Uses;
 use std::alloc::{AllocError, Global};
 use tv_model::{Action, Formula, Kind, Pred, PredId, Program, Update};
 
@@ -60,16 +61,6 @@ pub fn is_core(pred: &Pred) -> bool
     }
 }
 
-/// Whether the predicate has a definition that mentions one whose flag is set.
-fn rests(flags: &[bool], pred: &Pred) -> bool
-    ensures { result ≡ rests flags.now (pred_of pred.now).kind }
-{
-    match &pred.kind {
-        Kind::Core => false,
-        Kind::Defined { body, .. } => touches(flags, body),
-    }
-}
-
 /// Whether one of the updates is of this predicate.
 fn has_update(updates: &[Update], q: u32) -> bool
     ensures { result ≡ is_some (update_for q (map update_of updates.now)) }
@@ -101,16 +92,42 @@ fn push_changed(
     }
 }
 
+/// Sets the flag of the predicate where its definition mentions one whose flag is set.
+fn mark_one(uses: &Uses, flags: &mut Vec<bool>, q: usize)
+    ensures long { length flags.new.items ≡ length flags.old.items }
+    ensures marks { (preds : List PredForm) (old : List Bool) → AreMentionLists preds uses.now.lists.items
+        → IsMarking preds old flags.old.items → IsMarking preds old flags.new.items }
+{
+    if q >= flags.len() {
+        return;
+    }
+    if !uses.rests(flags.as_slice(), q) {
+        return;
+    }
+    flags[q] = true;
+}
+
+/// Sets the flags of predicates whose definitions rest on flagged ones: of all where the order is one.
+fn mark_in_order(uses: &Uses, flags: &mut Vec<bool>)
+    ensures long { length flags.new.items ≡ length flags.old.items }
+    ensures marks { (preds : List PredForm) (old : List Bool) → AreMentionLists preds uses.now.lists.items
+        → IsMarking preds old flags.old.items → IsMarking preds old flags.new.items }
+{
+    for q in uses.order.as_slice() {
+        mark_one(uses, flags, *q);
+    }
+}
+
 /// The first predicate whose flag isn't set and whose definition mentions one whose flag is.
-fn next_affected(preds: &[Pred], flags: &[bool]) -> Option<usize>
-    requires { length flags.now ≡ length preds.now }
+fn next_affected(uses: &Uses, flags: &[bool]) -> Option<usize>
+    requires { length uses.now.lists.items ≡ length flags.now }
     ensures some { IfSome result (λ q. (q < length flags.now) × (is_flagged flags.now q ≡ false)
-        × (rests_at flags.now (map pred_of preds.now) q ≡ true)) }
-    ensures none { IfNone result ((q : ℕ) → rests_at flags.now (map pred_of preds.now) q ≡ true
+        × (tells flags.now (slice_get uses.now.lists.items q) ≡ true)) }
+    ensures none { IfNone result ((q : ℕ) → tells flags.now (slice_get uses.now.lists.items q) ≡ true
         → is_flagged flags.now q ≡ true) }
 {
     for q in 0..flags.len() {
-        if !flags[q] && rests(flags, &preds[q]) {
+        if !flags[q] && uses.rests(flags, q) {
             return Some(q);
         }
     }
@@ -118,11 +135,13 @@ fn next_affected(preds: &[Pred], flags: &[bool]) -> Option<usize>
 }
 
 /// Sets the flags of all predicates whose definitions rest on flagged ones.
-fn mark(preds: &[Pred], flags: &mut Vec<bool>)
-    requires { length flags.old.items ≡ length preds.now }
-    ensures { AreMarked (map pred_of preds.now) flags.old.items flags.new.items }
+fn mark(uses: &Uses, flags: &mut Vec<bool>)
+    requires { length uses.now.lists.items ≡ length flags.old.items }
+    ensures { (preds : List PredForm) → AreMentionLists preds uses.now.lists.items
+        → AreMarked preds flags.old.items flags.new.items }
 {
-    while let Some(q) = next_affected(preds, flags.as_slice()) {
+    mark_in_order(uses, flags);
+    while let Some(q) = next_affected(uses, flags.as_slice()) {
         flags[q] = true;
     }
 }
@@ -131,14 +150,16 @@ fn mark(preds: &[Pred], flags: &mut Vec<bool>)
 pub fn affected_flags(
     alloc: Global,
     program: &Program,
+    uses: &Uses,
     action: &Action,
 ) -> Result<Vec<bool>, AllocError>
-    requires { length (program_of program.now).preds ≤ 512 }
+    requires few { length (program_of program.now).preds ≤ 512 }
+    requires uses { AreMentionLists (program_of program.now).preds uses.now.lists.items }
     ensures { IfOk result (λ flags. AreAffected (program_of program.now) (action_of action.now) flags.items) }
 {
     let preds = program.vocab.preds.as_slice();
     let mut flags = Vec::with_capacity(alloc, preds.len())?;
     push_changed(preds, 0, action.updates.as_slice(), &mut flags)?;
-    mark(preds, &mut flags);
+    mark(uses, &mut flags);
     Ok(flags)
 }

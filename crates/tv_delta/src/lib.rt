@@ -13,6 +13,7 @@ mod memo;
 mod opening;
 mod parts;
 mod program;
+mod uses;
 mod vocab;
 
 pub use answer::difference;

@@ -8,6 +8,7 @@ ghost use Rattle.tv_model.specs.Valid.{IsValid, IsPred};
 ghost use Rattle.tv_delta_laws.specs.Differences.{IsDifferenced, IsDifferencedAction, differenced_updates};
 ghost use Rattle.tv_delta_laws.specs.Differences.{answers_from, with_updates, with_actions};
 ghost use Rattle.tv_delta.specs.Answers.{HasRuns, UpdatesTellTruth, update_list};
+ghost use Rattle.tv_delta.specs.Flags.{AreMentionLists};
 ghost use Rattle.tv_delta.specs.Opening.{AreKnown};
 
 use crate::action::{copy_formulas, copy_messages, copy_pre, copy_retain, copy_update};
@@ -16,6 +17,7 @@ use crate::flags::{affected_flags, is_core, pred_at};
 use crate::kinds::Difference;
 use crate::lists::{copy_edges, copy_names, copy_vars};
 use crate::memo::{Memo, empty};
+use crate::uses::Uses;
 use crate::vocab::{copy_rules, copy_vocab};
 use std::alloc::{AllocError, Global};
 use tv_delta_laws::{differenced_is_valid, runs_are_differenced, updates_tell_the_truth};
@@ -154,13 +156,15 @@ fn with_updates(alloc: Global, action: &Action, updates: Updates) -> Result<Acti
 fn differenced_action(
     alloc: Global,
     program: &Program,
+    uses: &Uses,
     action: &Action,
 ) -> Result<Action, AllocError>
-    requires { IsValid (program_of program.now) }
+    requires valid { IsValid (program_of program.now) }
+    requires uses { AreMentionLists (program_of program.now).preds uses.now.lists.items }
     ensures { IfOk result
         (λ b. IsDifferencedAction (program_of program.now) (action_of action.now) (action_of b)) }
 {
-    let affected = affected_flags(alloc, program, action)?;
+    let affected = affected_flags(alloc, program, uses, action)?;
     let a = Affecting {
         program,
         action,
@@ -177,10 +181,11 @@ fn differenced_actions(alloc: Global, program: &Program) -> Result<Actions, Allo
     ensures { IfOk result (λ bs. AllZip (IsDifferencedAction (program_of program.now))
         (map action_of program.now.actions) (map action_of bs)) }
 {
+    let uses = Uses::new(alloc, program.vocab.preds.as_slice())?;
     let actions = program.actions.as_slice();
     let mut out = Vec::with_capacity(alloc, actions.len())?;
     for action in actions {
-        out.push(differenced_action(alloc, program, action)?)?;
+        out.push(differenced_action(alloc, program, &uses, action)?)?;
     }
     Ok(Actions::from_vec(out))
 }

@@ -14,7 +14,7 @@ returns-clause-exact c =
     in let at = place action_of c.args.program.now.actions c.args.action c.index-as_slice-action.result c.requires.action
     (rw c.as_slice.ensures at c.index-as_slice-action.is)
     in let found = place pred_of preds q c.index-as_slice-pred.result below
-    (rw c.as_slice-2.ensures at c.index-as_slice-pred.is)
+    (rw c.as_slice-3.ensures at c.index-as_slice-pred.is)
     in IfOk-weaker c.answer_at.result _ _
     (λ x says. differs p c.args.action q (action_of c.index-as_slice-action.result) c.in_ok-affected.affected.items
     c.deref.result.now (pred_of c.index-as_slice-pred.result) x at found c.requires.defined c.deref.ensures.value

@@ -1,9 +1,10 @@
-use Rattle.std.proofs.Common.{◌≡◌, ◌∙◌, ◌++◌, Bool, List, [], length, map, ap, subst}
+use Rattle.std.proofs.Common.{◌≡◌, ◌∙◌, ◌++◌, Bool, List, [], length, map, ap, subst, sym}
 use Rattle.std.proofs.lemmas.List.{length-map}
 use Rattle.tv_model.specs.declared.program.Pred.{Pred}
 use Rattle.tv_model.specs.declared.program.Update.{Update}
 use Rattle.tv_model.specs.Program.{UpdateForm, program_of, action_of, pred_of, update_of}
-use Rattle.tv_delta.specs.Flags.{changed_from, AreMarked}
+use Rattle.tv_lemmas.proofs.Zips.{zip_length}
+use Rattle.tv_delta.specs.Flags.{changed_from, AreMarked, AreMentionLists, ListTells}
 use Rattle.tv_delta.proofs.Marks.{length-changed, marked_are_affected}
 use Rattle.tv_delta.proofs.flags.affected_flags.Goals as goal
 
@@ -16,10 +17,13 @@ fits new preds updates is = ap length is ∙ length-changed 0 (map pred_of preds
 
 pub mark-requires : goal.mark-requires
 mark-requires c =
-    fits c.push_changed.new.flags.items c.as_slice-preds.result.now (map update_of c.as_slice.result.now)
+    sym (zip_length ListTells (program_of c.args.program.now).preds c.args.uses.now.lists.items c.requires.uses)
+    ∙ length-map c.args.program.now.vocab.preds pred_of
+    ∙ ap length (sym c.as_slice-preds.ensures)
+    ∙ sym (fits c.push_changed.new.flags.items c.as_slice-preds.result.now (map update_of c.as_slice.result.now)
     (started c.in_ok-flags.flags.items c.push_changed.new.flags.items
     (changed_from 0 (map pred_of c.as_slice-preds.result.now) (map update_of c.as_slice.result.now))
-    c.in_ok-flags.ensures.items c.in_ok-push_changed.ensures)
+    c.in_ok-flags.ensures.items c.in_ok-push_changed.ensures))
 
 marked : (preds all : List Pred) (updates given : List Update) (old new : List Bool) → preds ≡ all → updates ≡ given
     → old ≡ changed_from 0 (map pred_of preds) (map update_of updates) → AreMarked (map pred_of preds) old new
@@ -37,4 +41,5 @@ returns c =
     (started c.in_ok-flags.flags.items c.push_changed.new.flags.items
     (changed_from 0 (map pred_of c.as_slice-preds.result.now) (map update_of c.as_slice.result.now))
     c.in_ok-flags.ensures.items c.in_ok-push_changed.ensures)
-    c.mark.ensures)
+    (c.mark.ensures (map pred_of c.as_slice-preds.result.now)
+    (subst (λ ds. AreMentionLists (map pred_of ds) c.args.uses.now.lists.items) (sym c.as_slice-preds.ensures) c.requires.uses)))
