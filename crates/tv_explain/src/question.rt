@@ -1,5 +1,7 @@
 //! What is asked of an analysis, or of its initial structures.
 
+use tv_explain_words::Bounds;
+
 /// A question on the files of an analysis.
 #[derive(Clone, Copy)]
 pub enum Question<'a> {
@@ -13,4 +15,10 @@ pub enum Question<'a> {
     Step { edge: u32 },
     /// How many structures are listed at each node.
     Counts,
+    /// Whether the message of this number among those of the edge's action is true in a run of few small heaps.
+    Witness {
+        edge: u32,
+        number: u32,
+        bounds: Bounds,
+    },
 }

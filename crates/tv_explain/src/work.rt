@@ -150,6 +150,20 @@ fn execute<F: Files>(alloc: Global, files: &mut F, command: &Command) -> Result<
             delta,
         } => plain(plan(alloc, files, program, *mode, *delta)),
         Command::Counts { of } => ask(alloc, files, of, &Question::Counts),
+        Command::Witness {
+            of,
+            edge,
+            number,
+            bounds,
+        } => {
+            let (edge, number, bounds) = (*edge, *number, *bounds);
+            let question = Question::Witness {
+                edge,
+                number,
+                bounds,
+            };
+            ask(alloc, files, of, &question)
+        }
         Command::Complete {
             program,
             structures,

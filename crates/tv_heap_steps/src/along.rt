@@ -1,0 +1,120 @@
+//! The steps along an edge.
+
+ghost use Rattle.std.specs.Prelude.{◌≡◌, ◌<◌, All, IfOk, length};
+ghost use Rattle.tv_heap_steps.specs.Steps.{AreAllSteps, IsMoveBy, IsPassed, IsReadyToWalk, IsSmallHeap};
+ghost use Rattle.tv_heap_steps.specs.Steps.{IsSmallStep, IsStepBy};
+
+use crate::accepted::is_accepted;
+use crate::chosen::all_chosen;
+use crate::walker::Walker;
+use std::alloc::{AllocError, Global};
+use tv_eval::Scratch;
+use tv_model::Items;
+use tv_replay_step::{Halt, Moved, next};
+use tv_struct::{Numbers, Structure};
+use tv_trace::Move;
+use tv_witness_laws::{moves_lead_everywhere, steps_are_named};
+
+/// A move, and where it leads.
+#[derive(Debug, Drop)]
+pub struct Led {
+    pub step: Move,
+    pub moved: Moved,
+}
+
+/// The move along the edge by these individuals.
+fn move_by(alloc: Global, edge: u32, chosen: &[u32]) -> Result<Move, AllocError>
+    ensures { IfOk result (IsMoveBy edge chosen.now) }
+{
+    let mut picks = Vec::new(alloc);
+    picks.extend_from_slice(chosen)?;
+    Ok(Move {
+        edge,
+        picks: Items::from_vec(picks),
+        values: None,
+    })
+}
+
+/// The step along the edge by these individuals, if it can be made and nothing speaks against it.
+fn step_by(
+    walker: &Walker<'_>,
+    edge: u32,
+    s: &Structure,
+    chosen: &[u32],
+    scratch: &mut Scratch,
+) -> Result<Option<Led>, AllocError>
+    requires ready { IsReadyToWalk walker.now scratch.old }
+    requires edge { edge < length walker.now.ordered.program.now.edges }
+    requires heap { IsSmallHeap walker.now s.now }
+    ensures step { IfOk result (IsStepBy walker.now edge s.now chosen.now) }
+    ensures scratch { scratch.new ≡ scratch.old }
+{
+    moves_lead_everywhere();
+    let _ = s.size();
+    let ordered = &walker.ordered;
+    let node = ordered.program.edges.as_slice()[edge as usize].from;
+    let step = move_by(ordered.alloc, edge, chosen)?;
+    match next(ordered, node, s, &step, scratch) {
+        Ok(moved) => {
+            if is_accepted(walker, &moved, scratch)? {
+                Ok(Some(Led { step, moved }))
+            } else {
+                Ok(None)
+            }
+        }
+        Err(Halt::Stuck(_)) => Ok(None),
+        Err(Halt::Memory) => Err(AllocError),
+    }
+}
+
+/// The steps along the edge by each of these lists of individuals.
+fn steps_by(
+    walker: &Walker<'_>,
+    edge: u32,
+    s: &Structure,
+    lists: &[Numbers],
+    scratch: &mut Scratch,
+) -> Result<Vec<Led>, AllocError>
+    requires ready { IsReadyToWalk walker.now scratch.old }
+    requires edge { edge < length walker.now.ordered.program.now.edges }
+    requires heap { IsSmallHeap walker.now s.now }
+    ensures each { IfOk result (λ all. All (IsSmallStep walker.now edge s.now) all.items) }
+    ensures all { IfOk result (λ all. All (IsPassed walker.now edge s.now all.items) lists.now) }
+    ensures scratch { scratch.new ≡ scratch.old }
+{
+    let mut all = Vec::new(walker.ordered.alloc);
+    for chosen in lists {
+        if let Some(led) = step_by(walker, edge, s, chosen.as_slice(), scratch)? {
+            all.push(led)?;
+        }
+    }
+    Ok(all)
+}
+
+/// The steps along the edge from the heap that `s` stands for: each is a fair step to a heap of few cells, and
+/// each such heap is a copy of one to which one of these leads. The scratch is given back as it was.
+///
+/// # Errors
+/// Lack of memory.
+pub fn steps_along(
+    walker: &Walker<'_>,
+    edge: u32,
+    s: &Structure,
+    scratch: &mut Scratch,
+) -> Result<Vec<Led>, AllocError>
+    requires ready { IsReadyToWalk walker.now scratch.old }
+    requires edge { edge < length walker.now.ordered.program.now.edges }
+    requires heap { IsSmallHeap walker.now s.now }
+    ensures each { IfOk result (λ all. All (IsSmallStep walker.now edge s.now) all.items) }
+    ensures all { IfOk result (λ all. AreAllSteps walker.now edge s.now all.items) }
+    ensures scratch { scratch.new ≡ scratch.old }
+{
+    steps_are_named();
+    let program = walker.ordered.program;
+    let taken = program.edges.as_slice()[edge as usize];
+    let action = &program.actions.as_slice()[taken.action as usize];
+    let alloc = walker.ordered.alloc;
+    let lists = all_chosen(alloc, s.size(), action.picks.as_slice())?;
+    let all = steps_by(walker, edge, s, lists.as_slice(), scratch)?;
+    Ok(all)
+}

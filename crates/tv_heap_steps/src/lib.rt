@@ -1,0 +1,12 @@
+//! The heaps of few cells to which the fair steps from a heap lead, each with the move that makes it.
+#![tactic(auto)]
+
+mod accepted;
+mod along;
+mod chosen;
+mod settled;
+mod walker;
+
+pub use along::{Led, steps_along};
+pub use settled::are_all_settled;
+pub use walker::Walker;
