@@ -10,21 +10,21 @@ ghost use Rattle.tv_explain.specs.Answers.{IsMessageText, IsStepText, IsStopped,
 ghost use Rattle.tv_explain.specs.Answers.{NamesNothing};
 ghost use Rattle.tv_explain.specs.Answers.{TellsOfLosses, TellsOfWitness, trail_lines};
 ghost use Rattle.tv_explain.specs.Meaning.{drawn_form, heads_in};
-ghost use Rattle.tv_explain.specs.Questions.{IsTold, command_of};
+ghost use Rattle.tv_explain.specs.Questions.{IsTold, command_of, witness_command};
 ghost use Rattle.tv_explain.specs.Work.{AreReady, GoesOnWithSteps, IsStepsStop};
 ghost use Rattle.tv_explain_text.specs.Texts.{messages_at};
 ghost use Rattle.tv_explain_text.specs.Trails.{raised_line};
 ghost use Rattle.tv_explain_words.specs.Words.{AnalyzedForm, TellsLosses, TellsMessage, TellsStructure};
-ghost use Rattle.tv_explain_words.specs.Words.{TakesStep, TellsCounts, TellsWitness, analyzed_of, bounds_of};
+ghost use Rattle.tv_explain_words.specs.Words.{TakesStep, TellsCounts, analyzed_of, bounds_of};
 ghost use Rattle.tv_structure_form.specs.StructureForm.{IsOver};
 
 use crate::fault::{Answer, Fault, Sought, fault_of_search, fault_of_work, plain};
 use crate::inputs::Inputs;
-use crate::question::Question;
+use crate::question::{Question, Search};
 use std::alloc::{AllocError, Global};
 use tv_counts::counts_text;
 use tv_explain_text::{Told, messages_at, raised_text, trail_text};
-use tv_explain_words::{Analyzed, Bounds};
+use tv_explain_words::Analyzed;
 use tv_losses_text::explain_losses;
 use tv_model::{Bytes, Message};
 use tv_stages::Stager;
@@ -262,16 +262,19 @@ fn witness_answer(
     alloc: Global,
     inputs: &Inputs,
     of: &Analyzed,
-    edge: u32,
-    number: u32,
-    bounds: Bounds,
+    search: &Search,
 ) -> Result<Answer, Fault>
     requires { AreReady inputs.now }
-    ensures found { IfOk result
-        (TellsOfWitness (analyzed_of of.now) inputs.now edge number (bounds_of bounds)) }
-    ensures cause { IfErr result (IsStopped (TellsWitness (analyzed_of of.now) edge number (bounds_of bounds))
+    ensures found { IfOk result (TellsOfWitness (analyzed_of of.now) inputs.now search.now.edge
+        search.now.number (bounds_of search.now.bounds)) }
+    ensures cause { IfErr result (IsStopped (witness_command (analyzed_of of.now) search.now)
         (analyzed_of of.now) inputs.now) }
 {
+    let Search {
+        edge,
+        number,
+        bounds,
+    } = *search;
     let message = match message_at(inputs, edge, number) {
         Ok(message) => message,
         Err(what) => return Err(Fault::NotThere(what)),
@@ -313,10 +316,6 @@ pub fn answer(
         Question::Losses => losses_answer(alloc, inputs, of),
         Question::Step { edge } => plain(step_answer(alloc, inputs, of, edge)),
         Question::Counts => plain(counts_answer(alloc, inputs, of)),
-        Question::Witness {
-            edge,
-            number,
-            bounds,
-        } => witness_answer(alloc, inputs, of, edge, number, bounds),
+        Question::Witness(search) => witness_answer(alloc, inputs, of, &search),
     }
 }

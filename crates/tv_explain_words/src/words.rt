@@ -346,10 +346,14 @@ fn cells_of(values: Option<&[&str]>) -> Option<Option<u32>>
 {
     match values {
         None | Some([]) => Some(None),
-        Some([value]) => match number(value) {
-            Some(cells) if cells <= GREATEST_CELLS => Some(Some(cells)),
-            _ => None,
-        },
+        Some([value]) => {
+            let cells = number(value)?;
+            if cells <= GREATEST_CELLS {
+                Some(Some(cells))
+            } else {
+                None
+            }
+        }
         Some(_) => None,
     }
 }

@@ -1,5 +1,18 @@
 -- What is asked of the last heap can be found out.
-use Rattle.std.proofs.Common.{ℕ, ◌≡◌, ◌≤◌, sym, ◌∙◌, arith}
+use Rattle.std.proofs.Common.{ℕ, ◌≡◌, ◌≤◌, ◌↔◌, Bool, false, List, [], Option, IsTrue, sym, ◌∙◌, arith}
+use Rattle.tv_eval.specs.Formulas.{AreAssigned}
+use Rattle.tv_lemmas.proofs.Bools.{isnt_so}
+use Rattle.tv_model.specs.Form.{Form}
+use Rattle.tv_model.specs.Heap.{Heap}
+use Rattle.tv_model.specs.Truth.{Assignment, Truth}
+use Rattle.tv_model.specs.Valid.{IsOver}
+use Rattle.tv_model.proofs.Lists.{Contains-none}
+use Rattle.tv_model.proofs.Truths.{truth-agreed}
+use Rattle.tv_two_valued.specs.TwoValued.{heap_of}
+use Rattle.tv_witness_laws.specs.Witness.{IsAimedAt}
+use Rattle.tv_heap_search.specs.Visited.{IsGoal}
+use Rattle.tv_heap_search.specs.declared.quest.Quest.{Quest}
+use Rattle.tv_heap_search.specs.declared.visits.Visit.{Visit}
 use Rattle.tv_eval.specs.ScratchForm.{ScratchForm}
 use Rattle.tv_eval.proofs.Programs.{made_scratches_fit, program_formulas_are_over}
 use Rattle.tv_model.specs.Form.{form_of}
@@ -27,3 +40,18 @@ can_ask walker room (LiesIn t) s ready over small = (small.two_valued, small.ove
 pub closed_aim : (program : Program) (goal : Goal) → IsGoalOver program goal → IsClosedAim (aim_of goal)
 closed_aim program (Makes cond) over = over.1
 closed_aim program (LiesIn t) over = tt
+
+-- a formula without free variables has no variable to which to put an individual
+pub none_assigned : (f : Form) (size : ℕ) (places : List (Option ℕ)) → IsOver [] f → AreAssigned size places f
+none_assigned f size places over v free = absurd (Contains-none v (over v free))
+
+pub truth_closed : (h : Heap) (a b : Assignment) (f : Form) → IsOver [] f → Truth h a f ↔ Truth h b f
+truth_closed h a b f over = truth-agreed h a b f (λ v free. absurd (Contains-none v (over v free)))
+
+-- whether what was met is a goal
+pub no_goal_elsewhere : (x : Quest) (v : Visit) → (v.node ≡ x.node → ⊥) → IsTrue false ↔ IsGoal x v
+no_goal_elsewhere x v other = isnt_so (IsGoal x v) (λ goal. other goal.0)
+
+pub goal_there : (x : Quest) (v : Visit) (is : Bool) → v.node ≡ x.node
+    → IsTrue is ↔ IsAimedAt (aim_of x.goal) (heap_of v.heap) → IsTrue is ↔ IsGoal x v
+goal_there x v is here aimed = (λ t. (here, aimed.0 t), λ goal. aimed.1 goal.1)

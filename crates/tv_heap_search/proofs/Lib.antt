@@ -5,3 +5,6 @@ pub mod Levelling
 pub mod Retracing
 pub mod Asking
 pub mod Marks
+pub mod Meeting
+pub mod Turning
+pub mod Witnessing

@@ -315,3 +315,9 @@ module _ (x : Quest) (valid : IsValid (program_in x.walker)) (list : List Visit)
         steps = found.3 ∙ length-map w.legs step_of;
         shortest = λ start others is. near start others is (length w.legs) trace.steps;
       }
+
+-- a heap that belongs to one of the structures isn't above none of them
+pub some_above : (s : StructureForm) (structures : List StructureForm) → IsHeapOfSome structures (heap_of s)
+    → All (IsNotAbove s) structures → ⊥
+some_above s structures (k, t, within, at, lies) none =
+    All-contains (IsNotAbove s) structures t none (k, within, at) lies

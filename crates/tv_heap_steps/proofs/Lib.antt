@@ -1,2 +1,3 @@
 pub mod ChosenLaws
 pub mod StepLaws
+pub mod SettledLaws

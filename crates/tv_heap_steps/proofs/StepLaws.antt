@@ -1,16 +1,17 @@
 -- What a move tells of the fair steps by the same individuals.
 use Rattle.std.proofs.Common.{ℕ, ◌≡◌, ◌≢◌, ◌<◌, ◌≤◌, List, [], ◌∷◌, ◌++◌, length, map, Option}
-use Rattle.std.proofs.Common.{Some, None, All, AllPairs, Contains, IsTrue, refl, sym, ap, subst, ◌∙◌, arith}
+use Rattle.std.proofs.Common.{◌+◌, get_or, take}
+use Rattle.std.proofs.Common.{Some, None, All, AllPairs, Contains, refl, sym, ap, subst, ◌∙◌, arith}
 use Rattle.std.specs.Prelude.{IfSome, slice_get}
 use Rattle.std.specs.Option.{option_map}
 use Rattle.std.specs.List.{range_with_len}
 use Rattle.std.specs.Cmp.{nat_eq_equiv}
 use Rattle.std.proofs.lemmas.Bool.Decides.{Decides-eqb}
-use Rattle.std.proofs.lemmas.List.{length-map}
+use Rattle.std.proofs.lemmas.List.{append-nil, length-map, take_more}
 use Rattle.std.proofs.lemmas.List.Elements.{All-contains, All-push, All-weaker, Contains-append_left, Contains-push}
 use Rattle.std.proofs.lemmas.List.FromFn.{length-range_with_len}
 use Rattle.std.proofs.lemmas.Map.Made.{length-le_from_is_member, IsDistinct-from_AllPairs, is_member-Decides}
-use Rattle.std.proofs.lemmas.Option.{same_Some}
+use Rattle.std.proofs.lemmas.Option.{same_Some, slice_get-get_or}
 use Rattle.tv_concrete.specs.Tuples.{tuples_of}
 use Rattle.tv_eval.specs.ScratchForm.{ScratchForm}
 use Rattle.tv_model.specs.declared.formula.PredId.{PredId}
@@ -44,13 +45,14 @@ use Rattle.tv_tvs.specs.Targets.{IsRead}
 use Rattle.tv_two_valued.specs.Laws.{IsOfProgram}
 use Rattle.tv_two_valued.specs.TwoValued.{heap_of}
 use Rattle.tv_two_valued.proofs.Heaps.{heap-of_program}
+use Rattle.tv_model.proofs.Lists.{slice_get-contains}
 use Rattle.tv_model.proofs.Parts.{arities-same}
 use Rattle.tv_witness_laws.specs.Laws.{MovesLeadEverywhere, StepsAreNamed}
 use Rattle.tv_witness_laws.specs.Steps.{IsNamedStep, LeadsToCopy}
 use Rattle.tv_witness_laws.specs.Witness.{HasFewCells}
 use Rattle.tv_heap_steps.specs.Settled.{AreSettled}
 use Rattle.tv_heap_steps.specs.Steps.{AreAllSteps, IsAccepted, IsMoveBy, IsPassed, IsReadyToWalk, IsSmallHeap}
-use Rattle.tv_heap_steps.specs.Steps.{IsStepBy, IsUnbrokenBy, LeadsTo, program_in}
+use Rattle.tv_heap_steps.specs.Steps.{IsSmallStep, IsStepBy, IsUnbrokenBy, LeadsTo, program_in, some_of}
 use Rattle.tv_heap_steps.specs.declared.along.Led.{Led}
 use Rattle.tv_heap_steps.specs.declared.walker.Walker.{Walker}
 use Rattle.tv_heap_steps.proofs.ChosenLaws.{chosen_listed, none_free}
@@ -155,6 +157,18 @@ module _ (walker : Walker) (edge : ℕ) (s : StructureForm) (small : IsSmallHeap
 
 -- ---- what a try of the chosen individuals answers
 
+-- the edge as it is taken from the program's
+pub edge_there : (walker : Walker) (edge : ℕ) (edges : List Edge) → edges ≡ (program_in walker).edges
+    → edge < length (program_in walker).edges
+    → (taken : Edge) × (slice_get (program_in walker).edges edge ≡ Some taken)
+    × (taken ≡ get_or edges edge (record { from = 0; action = 0; to = 0 }))
+edge_there walker edge edges same within = (
+  get_or edges edge (record { from = 0; action = 0; to = 0 }),
+  subst (λ es. slice_get (program_in walker).edges edge ≡ Some (get_or es edge (record { from = 0; action = 0; to = 0 })))
+      (sym same) (slice_get-get_or (program_in walker).edges edge (record { from = 0; action = 0; to = 0 }) within),
+  refl,
+)
+
 -- the move may be tried
 pub move_on : (walker : Walker) (edge : ℕ) (chosen : List ℕ) (move : Move) → IsMoveBy edge chosen move
     → edge < length walker.ordered.program.now.edges
@@ -231,16 +245,42 @@ module _ (walker : Walker) (edge : ℕ) (s : StructureForm) where
   passed_none leds lists chosen all step =
       All-push (IsPassed walker edge s leds) lists chosen all (λ named to few. absurd (step named to few))
 
+-- one more was tried
+pub steps_next : (walker : Walker) (edge : ℕ) (s : StructureForm) (leds more : List Led) (found : Option Led)
+    (lists : List (List ℕ)) (i : ℕ) (chosen : List ℕ) → i < length lists → chosen ≡ get_or lists i chosen
+    → more ≡ leds ++ some_of found → IsStepBy walker edge s chosen found
+    → All (IsSmallStep walker edge s) leds → All (IsPassed walker edge s leds) (take i lists)
+    → All (IsSmallStep walker edge s) more × All (IsPassed walker edge s more) (take (i + 1) lists)
+steps_next walker edge s leds more found lists i chosen within is grown step each passed =
+    subst (λ ms. All (IsSmallStep walker edge s) ms × All (IsPassed walker edge s ms) (take (i + 1) lists)) (sym grown)
+    (subst (λ ls. All (IsSmallStep walker edge s) (leds ++ some_of found)
+    × All (IsPassed walker edge s (leds ++ some_of found)) ls) (sym (take_more lists i chosen within
+    ∙ ap (λ us. take i lists ++ us ∷ []) (sym is))) (by found step))
+  where
+    by : (o : Option Led) → IsStepBy walker edge s chosen o
+        → All (IsSmallStep walker edge s) (leds ++ some_of o)
+        × All (IsPassed walker edge s (leds ++ some_of o)) (take i lists ++ chosen ∷ [])
+    by None none =
+        subst (λ ms. All (IsSmallStep walker edge s) ms × All (IsPassed walker edge s ms) (take i lists ++ chosen ∷ []))
+        (sym (append-nil leds)) (each, passed_none walker edge s leds (take i lists) chosen passed none)
+    by (Some led) one = (
+      All-push (IsSmallStep walker edge s) leds led each one.0,
+      passed_more walker edge s leds led (take i lists) chosen passed one,
+    )
+
 -- ---- all of them
 
 pub all_steps : (walker : Walker) (room : ScratchForm) → IsReadyToWalk walker room → (edge : ℕ) (s : StructureForm)
     → IsSmallHeap walker s → StepsAreNamed → (taken : Edge) (action : ActionForm)
     → slice_get (program_in walker).edges edge ≡ Some taken
-    → slice_get (program_in walker).actions taken.action ≡ Some action → AreSettled action.updates
+    → slice_get (program_in walker).actions taken.action ≡ Some action
     → (lists : List (List ℕ)) → lists ≡ tuples_of (range_with_len 0 s.size) (length action.picks) → (leds : List Led)
     → All (IsPassed walker edge s leds) lists → AreAllSteps walker edge s leds
-all_steps walker room ready edge s small named taken action its_edge its_action settled lists are leds all other is new step few =
+all_steps walker room ready edge s small named taken action its_edge its_action lists are leds all other is new step few =
     let p : ProgramForm = program_in walker
+    in let settled : AreSettled action.updates
+    = All-contains (λ (a : ActionForm). AreSettled a.updates) p.actions action ready.settled
+    (slice_get-contains p.actions taken.action action its_action)
     in let over : IsOfProgram p s = (small.over ∙ sym (arities-same walker.ordered.program.now.vocab.preds), small.unmarked)
     in let same : other ≡ taken = same_Some other taken (sym is ∙ its_edge)
     in let has = named p ready.valid s over walker.mode other new step

@@ -1,5 +1,5 @@
 -- The heaps of few cells to which the fair steps from a heap lead.
-use Rattle.std.specs.Prelude.{ℕ, ◌≡◌, ◌<◌, ◌≤◌, List, map, Option, Some, None, All, Contains, slice_get, ⊤}
+use Rattle.std.specs.Prelude.{ℕ, ◌≡◌, ◌<◌, ◌≤◌, List, [], ◌∷◌, map, Option, Some, None, All, Contains, slice_get, ⊤}
 use Rattle.tv_eval.specs.ScratchForm.{ScratchForm, IsMadeFor}
 use Rattle.tv_model.specs.declared.formula.PredId.{PredId}
 use Rattle.tv_model.specs.declared.program.Edge.{Edge}
@@ -103,6 +103,10 @@ IsStepBy walker edge s chosen None =
 IsStepBy walker edge s chosen (Some led) =
     IsSmallStep walker edge s led
     × ((named : Heap) → LeadsTo walker edge s chosen named → IsHeapCopy (heap_of led.moved.heap) named)
+
+abbrev pub some_of : Option Led → List Led
+some_of None = []
+some_of (Some led) = led ∷ []
 
 -- each heap of few cells to which the chosen individuals lead is a copy of one to which these lead
 abbrev pub IsPassed : Walker → (edge : ℕ) → StructureForm → List Led → (chosen : List ℕ) → Type 0

@@ -1,8 +1,8 @@
 //! The steps along an edge.
 
-ghost use Rattle.std.specs.Prelude.{◌≡◌, ◌<◌, All, IfOk, length};
+ghost use Rattle.std.specs.Prelude.{◌≡◌, ◌<◌, ◌++◌, All, IfOk, OnOk, length};
 ghost use Rattle.tv_heap_steps.specs.Steps.{AreAllSteps, IsMoveBy, IsPassed, IsReadyToWalk, IsSmallHeap};
-ghost use Rattle.tv_heap_steps.specs.Steps.{IsSmallStep, IsStepBy};
+ghost use Rattle.tv_heap_steps.specs.Steps.{IsSmallStep, IsStepBy, some_of};
 
 use crate::accepted::is_accepted;
 use crate::chosen::all_chosen;
@@ -67,6 +67,19 @@ fn step_by(
     }
 }
 
+/// Pushes the step, if there is one.
+fn push_some(found: Option<Led>, all: &mut Vec<Led>) -> Result<(), AllocError>
+    ensures { OnOk result (all.new.items ≡ all.old.items ++ some_of found) }
+{
+    match found {
+        None => Ok(()),
+        Some(led) => {
+            all.push(led)?;
+            Ok(())
+        }
+    }
+}
+
 /// The steps along the edge by each of these lists of individuals.
 fn steps_by(
     walker: &Walker<'_>,
@@ -84,9 +97,8 @@ fn steps_by(
 {
     let mut all = Vec::new(walker.ordered.alloc);
     for chosen in lists {
-        if let Some(led) = step_by(walker, edge, s, chosen.as_slice(), scratch)? {
-            all.push(led)?;
-        }
+        let found = step_by(walker, edge, s, chosen.as_slice(), scratch)?;
+        push_some(found, &mut all)?;
     }
     Ok(all)
 }
