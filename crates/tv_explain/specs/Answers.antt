@@ -104,8 +104,8 @@ witness_task of inputs bounds = record {
   cells = cells_for bounds.cells inputs.initial;
 }
 
--- the answer is what is told of the message of this number among those of the edge's action, and says whether a
--- witness is
+-- the answer is what is told of the message of this number among those of the edge's action, and says whether
+-- a witness is
 abbrev pub TellsOfWitness : AnalyzedForm → Inputs → (edge number : ℕ) → BoundsForm → Answer → Type 0
 TellsOfWitness of inputs edge number bounds answer = (message : MessageForm)
     × (slice_get (messages_at (drawn_form inputs) edge) number ≡ Some message)
@@ -210,8 +210,8 @@ IsAnswer told other answer = IsText told other answer.text.items × (answer.is_l
 abbrev pub Reached : AnalyzedForm → Inputs → Point → Type 0
 Reached of inputs = IsReached (drawn_form inputs) of.mode inputs.initial
 
--- no message of the edge can be searched for: the program has no edge of that number, or the edge's action no such
--- message; or an action leaves a predicate free
+-- no message of the edge can be searched for: the program has no edge of that number, or the edge's action no
+-- such message; or an action leaves a predicate free
 abbrev pub LacksSearch : ProgramForm → (edge number : ℕ) → Sought → Type 0
 LacksSearch p edge number sought.Edge = length p.edges ≤ edge
 LacksSearch p edge number sought.Message =
@@ -222,8 +222,8 @@ LacksSearch p edge number sought.Values =
     (edge < length p.edges) × (number < length (messages_at p edge)) × (¬ AreAllSettled p.actions)
 
 -- what the words name isn't there: the program has no edge of that number, the edge's action no such message,
--- the program no node of that name, or the analysis no structure at that place of it; or no message can be searched
--- for
+-- the program no node of that name, or the analysis no structure at that place of it; or no message can be
+-- searched for
 abbrev pub NamesNothing : CommandForm → AnalyzedForm → Inputs → Sought → Type 0
 NamesNothing (TellsMessage asked edge number) of inputs sought.Edge = length (drawn_form inputs).edges ≤ edge
 NamesNothing (TellsMessage asked edge number) of inputs sought.Message =
@@ -261,7 +261,8 @@ PassesItsStates (TellsWitness asked edge number bounds) of inputs passed =
 PassesItsStates command of inputs passed = ⊥
 
 -- why the command gives no text where its files mean these: more structures are reached than may be listed,
--- a step that it takes meets a budget, what is named isn't there, a search passes its limit, or memory ran out
+-- a step that it takes meets a budget, what is named isn't there, a search passes its limit, or memory ran
+-- out
 abbrev pub IsStopped : CommandForm → AnalyzedForm → Inputs → Fault → Type 0
 IsStopped command of inputs (Structures max) = (max ≡ of.max) × PassesMost command of inputs
 IsStopped command of inputs TooManySplits = MeetsItsBudget command of inputs MeetsSplits

@@ -105,13 +105,15 @@ CanBeCompleted p read =
     → (length text ≤ longest_gathered) × ReadsAsStructures p.vocab text completed
 
 -- a message can be searched for, and the question is such
-abbrev pub SearchesSuch : AnalyzedForm → Inputs → (edge number : ℕ) → BoundsForm → (Question → Type 0) → Type 0
+abbrev pub SearchesSuch : AnalyzedForm → Inputs → (edge number : ℕ) → BoundsForm → (Question → Type 0)
+    → Type 0
 SearchesSuch of inputs edge number bounds IsSuch =
     (edge < length (drawn_form inputs).edges) × (number < length (messages_at (drawn_form inputs) edge))
     × AreAllSettled (drawn_form inputs).actions
     × ((taken : Edge) (message : MessageForm) → slice_get (drawn_form inputs).edges edge ≡ Some taken
     → slice_get (messages_at (drawn_form inputs) edge) number ≡ Some message
-    → IsSuch (asks_message (drawn_form inputs) of.mode inputs.initial (cells_for bounds.cells inputs.initial) taken
+    → IsSuch
+    (asks_message (drawn_form inputs) of.mode inputs.initial (cells_for bounds.cells inputs.initial) taken
     message))
 
 -- nothing stands in the way of an answer that tells of nothing lost

@@ -83,8 +83,9 @@ abbrev pub ending_with : (is_lost : Bool) → Ending
 ending_with true = Lost
 ending_with false = As status.Done
 
--- the exit code of the process: as of `tvla`; a loss or a witness ends as a rejected report does, words that name
--- what isn't there as those that spell no command, and a text that isn't written as one that passes a limit
+-- the exit code of the process: as of `tvla`; a loss or a witness ends as a rejected report does, words that
+-- name what isn't there as those that spell no command, and a text that isn't written as one that passes a
+-- limit
 abbrev pub code_of : Ending → ℕ
 code_of (As it) = status_code it
 code_of Lost = 1

@@ -1,5 +1,6 @@
 -- What the parts of the work give.
-use Rattle.std.specs.Prelude.{◌≡◌, ◌<◌, ◌^◌, ℕ, Bool, true, false, length, List, ◌++◌, Option, Result, Ok, Err, All, Any}
+use Rattle.std.specs.Prelude.{◌≡◌, ◌<◌, ◌^◌, ℕ, Bool, true, false, length, List, ◌++◌, Option, Result, Ok}
+use Rattle.std.specs.Prelude.{Err, All, Any}
 use Rattle.std.specs.List.{AllZip}
 use Rattle.std.specs.declared.alloc.Global.{Global}
 use Rattle.std.specs.declared.vec.Vec.{Vec}

@@ -257,7 +257,8 @@ fn losses_answer(alloc: Global, inputs: &Inputs, of: &Analyzed) -> Result<Answer
     }
 }
 
-/// What is told of the message of this number among those of the edge's action: a witness, or that there is none.
+/// What is told of the message of this number among those of the edge's action: a witness, or that there is
+/// none.
 fn witness_answer(
     alloc: Global,
     inputs: &Inputs,

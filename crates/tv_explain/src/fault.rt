@@ -31,15 +31,16 @@ pub enum Sought {
     Values,
 }
 
-/// How far a search among heaps has come: with so many individuals more than so many heaps were met, or structures
-/// split.
+/// How far a search among heaps has come: with so many individuals more than so many heaps were met, or
+/// structures split.
 #[derive(Clone, Copy, Debug, PartialEq, Eq)]
 pub struct Passed {
     pub cells: u32,
     pub states: u32,
 }
 
-/// What a command gives: a text, and whether that tells of anything lost, as `losses` alone may do, or of a witness.
+/// What a command gives: a text, and whether that tells of anything lost, as `losses` alone may do, or of a
+/// witness.
 #[derive(Debug, Drop)]
 pub struct Answer {
     pub text: Vec<u8>,
@@ -122,8 +123,9 @@ impl Ending {
         }
     }
 
-    /// The exit code of the process: that of `tvla`'s status; 1 where something is lost or a witness is found, 2
-    /// where the words name what isn't there, 4 where a text isn't written or a search has passed its limit.
+    /// The exit code of the process: that of `tvla`'s status; 1 where something is lost or a witness is
+    /// found, 2 where the words name what isn't there, 4 where a text isn't written or a search has passed
+    /// its limit.
     pub fn code(&self) -> u8
         ensures { result ≡ code_of self.now }
     {

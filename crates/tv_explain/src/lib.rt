@@ -32,9 +32,10 @@ use tv_texts::one_meaning_each;
 ///
 /// The work is done in this order: the words are read; PROGRAM is gathered and understood, or for `compiled`
 /// SOURCE is read and compiled; for `show` REPORT is read and understood, for `message`, `structure`,
-/// `losses`, `counts` and `witness` INITIAL, for `step` and `complete` STRUCTURES; what the words name is looked for,
-/// and the analysis or the steps run; the text is put together and given to `out` whole. The first fault ends
-/// the call, and its text is given to `err`. Where the text tells of a loss or a witness the call ends as `Lost`.
+/// `losses`, `counts` and `witness` INITIAL, for `step` and `complete` STRUCTURES; what the words name is
+/// looked for, and the analysis or the steps run; the text is put together and given to `out` whole. The
+/// first fault ends the call, and its text is given to `err`. Where the text tells of a loss or a witness the
+/// call ends as `Lost`.
 pub fn explain<F: Files, O: Sink, E: Sink>(
     alloc: Global,
     words: &[String],
@@ -70,9 +71,9 @@ pub fn explain<F: Files, O: Sink, E: Sink>(
     ensures out_count { O.faults out.old ≤ O.faults out.new }
     ensures err_count { E.faults err.old ≤ E.faults err.new }
 
-    // Each ending comes wherever it is called for, unless a call outside failed, memory ran out, or a search among
-    // heaps passed its limit; where no count of faults rose, unless one of the latter. Where over N structures are
-    // reached, `message` may have found its chain before.
+    // Each ending comes wherever it is called for, unless a call outside failed, memory ran out, or a search
+    // among heaps passed its limit; where no count of faults rose, unless one of the latter. Where over N
+    // structures are reached, `message` may have found its chain before.
     ensures exact { EndsAsOwed (words_of words.now) (F.holds files.old) result (MayStand result) }
     ensures complete { (¬ Rose (F.faults files.old) (F.faults files.new))
         → (¬ Rose (O.faults out.old) (O.faults out.new))

@@ -23,6 +23,7 @@ pub enum Question<'a> {
     Step { edge: u32 },
     /// How many structures are listed at each node.
     Counts,
-    /// Whether the message of this number among those of the edge's action is true in a run of few small heaps.
+    /// Whether the message of this number among those of the edge's action is true in a run of few small
+    /// heaps.
     Witness(Search),
 }

@@ -79,8 +79,8 @@ pub enum Command {
         program: String,
         structures: String,
     },
-    /// Writes a run of few small heaps to a message, by its number among those of the edge's action. `max` is that
-    /// of words that don't say it.
+    /// Writes a run of few small heaps to a message, by its number among those of the edge's action. `max` is
+    /// that of words that don't say it.
     Witness {
         of: Analyzed,
         edge: u32,
@@ -89,8 +89,8 @@ pub enum Command {
     },
 }
 
-/// How far witnesses are searched: how many individuals a heap may have, if the words say so, and how many heaps may
-/// be met.
+/// How far witnesses are searched: how many individuals a heap may have, if the words say so, and how many
+/// heaps may be met.
 #[derive(Clone, Copy, Debug, PartialEq, Eq)]
 pub struct Bounds {
     pub cells: Option<u32>,
@@ -371,7 +371,7 @@ fn states_of(values: Option<&[&str]>) -> Option<u32>
 }
 
 /// How far witnesses are searched, by the values of both options.
-fn bounds(asked: &AskedLine<'_, '_>) -> Option<Bounds>
+fn told_bounds(asked: &AskedLine<'_, '_>) -> Option<Bounds>
     ensures some { IfSome result (λ b. HasBounds (asked_in asked.now) (bounds_of b)) }
     ensures none { IfNone result ((b : BoundsForm) → ¬ HasBounds (asked_in asked.now) b) }
 {
@@ -404,7 +404,7 @@ fn witness(alloc: Global, asked_line: &AskedLine<'_, '_>) -> Result<Option<Comma
     if has_values(asked_line.line.max) {
         return Ok(None);
     }
-    let Some(bounds) = bounds(asked_line) else {
+    let Some(bounds) = told_bounds(asked_line) else {
         return Ok(None);
     };
     let Some(of) = asked(alloc, line, program, initial)? else {

@@ -199,9 +199,11 @@ steps_leave x list place edge v leds taken at its_edge leaves each b there k d w
     in let is : v ≡ b = at_once list place v b at there
     in subst (λ (w : Visit). IsMoved (program_in x.walker) (get_or leds k d).step (record { node = w.node; heap = w.heap })
     (get_or leds k d).moved
-    × IsAccepted (program_in x.walker) x.walker.mode x.walker.cells (get_or leds k d).moved) is
-    (subst (λ n. IsMoved (program_in x.walker) (get_or leds k d).step (record { node = n; heap = v.heap })
-    (get_or leds k d).moved) node step.moved, step.accepted)
+    × IsAccepted (program_in x.walker) x.walker.mode x.walker.cells (get_or leds k d).moved) is (
+      subst (λ n. IsMoved (program_in x.walker) (get_or leds k d).step (record { node = n; heap = v.heap })
+          (get_or leds k d).moved) node step.moved,
+      step.accepted,
+    )
 
 pub followed_then : (x : Quest) (old new : Visits) (place edge : ℕ) (v : Visit) (leds : List Led)
     → IsAt old.list.items place v → Grows (IsFrom place) old new

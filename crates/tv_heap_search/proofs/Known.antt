@@ -42,9 +42,11 @@ module _ (seen : List (List StructureForm)) (list : List Visit) (known : AreKnow
 
       new : n ≡ v.node → v.heap ≡ t → (t.fresh ≡ None) × HasMet (places_of (list ++ v ∷ [])) n (heap_of t)
       new here e =
-          subst (λ (x : StructureForm). (x.fresh ≡ None) × HasMet (places_of (list ++ v ∷ [])) n (heap_of x)) e
-          (plain, subst (λ m. HasMet (places_of (list ++ v ∷ [])) m (heap_of v.heap)) (sym here)
-          (met_there (list ++ v ∷ []) v (Contains-push list v)))
+          subst (λ (x : StructureForm). (x.fresh ≡ None) × HasMet (places_of (list ++ v ∷ [])) n (heap_of x)) e (
+            plain,
+            subst (λ m. HasMet (places_of (list ++ v ∷ [])) m (heap_of v.heap)) (sym here)
+                (met_there (list ++ v ∷ []) v (Contains-push list v)),
+          )
 
       last : n ≡ v.node → Contains (at_node seen v.node) t ⊎ (v.heap ≡ t)
           → (t.fresh ≡ None) × HasMet (places_of (list ++ v ∷ [])) n (heap_of t)

@@ -1,5 +1,6 @@
 -- What a search answers.
-use Rattle.std.specs.Prelude.{ℕ, ◌≡◌, ◌<◌, ◌≤◌, Bool, true, false, List, [], ◌∷◌, length, map, Option, Some, None, All, ⊤}
+use Rattle.std.specs.Prelude.{ℕ, ◌≡◌, ◌<◌, ◌≤◌, Bool, true, false, List, [], ◌∷◌, length, map, Option, Some}
+use Rattle.std.specs.Prelude.{None, All, ⊤}
 use Rattle.tv_model.specs.Heap.{Heap}
 use Rattle.tv_model.specs.Run.{Stage}
 use Rattle.tv_replay_laws.specs.Above.{IsFirstAbove}
@@ -47,9 +48,9 @@ abbrev pub IsNumberAbove : StructureForm → List StructureForm → (number : �
 IsNumberAbove s structures number =
     (above : ListedCover) × IsFirstAbove s structures (Some above) × (number ≡ above.structure)
 
--- the start is a heap of the program; the replay of it and the moves, whatever is listed, begins in the initial
--- structure of that number and goes through the heaps; nothing is broken that counts in the mode, and its last
--- state is as asked
+-- the start is a heap of the program; the replay of it and the moves, whatever is listed, begins in the
+-- initial structure of that number and goes through the heaps; nothing is broken that counts in the mode, and
+-- its last state is as asked
 pub record IsShown (q : Question) (w : Witness) (first : State) (later : List State) : Type 0 where
   pub structure : IsStructure w.track.start
   pub two_valued : IsTwoValued w.track.start
@@ -95,8 +96,8 @@ AnswersFewest q (Some found) =
     × HasNoSmaller q found.cells
 AnswersFewest q None = ¬ HasWitness q
 
--- why there is no answer: an action leaves a predicate free; the search with so many cells has none, and no witness
--- has fewer; or memory ran out
+-- why there is no answer: an action leaves a predicate free; the search with so many cells has none, and no
+-- witness has fewer; or memory ran out
 abbrev pub IsCauseOfNone : Question → Unanswered → Type 0
 IsCauseOfNone q Free = ¬ AreAllSettled q.program.actions
 IsCauseOfNone q (TooMany cells) = (cells ≤ q.cells) × HasNoSmaller q cells

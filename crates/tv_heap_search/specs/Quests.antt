@@ -43,16 +43,16 @@ question_of x goal = record {
   aim = aim_of goal;
 }
 
--- the condition is over the program's predicates, has no free variables and is hardly higher than the formulas
--- of the program; the structure is over the predicates, too
+-- the condition is over the program's predicates, has no free variables and is hardly higher than the
+-- formulas of the program; the structure is over the predicates, too
 abbrev pub IsGoalOver : Program → Goal → Type 0
 IsGoalOver program (Makes cond) =
     IsFormula (program_of program) (form_of cond.now) × IsOver [] (form_of cond.now)
     × (height (form_of cond.now) ≤ program_height (program_of program) + 4)
 IsGoalOver program (LiesIn s) = form.IsOver program.vocab s.now
 
--- a search can be made: steps can be, the closed rules are the program's, and the initial structures and the goal are
--- over its predicates
+-- a search can be made: steps can be, the closed rules are the program's, and the initial structures and the
+-- goal are over its predicates
 pub record IsReadyQuest (x : Quest) (room : ScratchForm) : Type 0 where
   pub walk : IsReadyToWalk x.walker room
   pub closed : rules_of x.closed.now ≡ closed_rules (program_in x.walker)

@@ -27,8 +27,8 @@ moves_of w = map (λ leg. leg.step) w.legs
 abbrev pub heaps_of : Track → List StructureForm
 heaps_of w = map (λ leg. leg.heap) w.legs
 
--- a start heap of an initial structure, and moves from it, as many as led to what was met at the place, with the
--- heaps to which they lead; they end there, and nothing speaks against them
+-- a start heap of an initial structure, and moves from it, as many as led to what was met at the place, with
+-- the heaps to which they lead; they end there, and nothing speaks against them
 pub record IsTraceTo (x : Quest) (list : List Visit) (place : ℕ) (w : Track) : Type 0 where
   pub heap : IsSmallHeap x.walker w.start
   pub start : IsStart (program_in x.walker) (heap_of w.start)

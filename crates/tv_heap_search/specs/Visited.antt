@@ -1,5 +1,6 @@
 -- What a search has met.
-use Rattle.std.specs.Prelude.{ℕ, zero, suc, ◌≡◌, ◌<◌, ◌≤◌, ◌++◌, List, length, map, Some, None, All, Contains, slice_get}
+use Rattle.std.specs.Prelude.{ℕ, zero, suc, ◌≡◌, ◌<◌, ◌≤◌, ◌++◌, List, length, map, Some, None, All, Contains}
+use Rattle.std.specs.Prelude.{slice_get}
 use Rattle.tv_embedding_laws.specs.Embedding.{IsHeapOf}
 use Rattle.tv_listing.specs.ListingForm.{at_node}
 use Rattle.tv_model.specs.declared.program.Edge.{Edge}
@@ -62,7 +63,8 @@ pub record LeadsHere (x : Quest) (b v : Visit) (step : Move) : Type 0 where
 -- before
 abbrev pub IsOrigin : Quest → List Visit → (place : ℕ) → Visit → Origin → Type 0
 IsOrigin x list place v Start =
-    (v.node ≡ 0) × IsStart (program_in x.walker) (heap_of v.heap) × IsHeapOfSome x.initial.now (heap_of v.heap)
+    (v.node ≡ 0) × IsStart (program_in x.walker) (heap_of v.heap)
+    × IsHeapOfSome x.initial.now (heap_of v.heap)
 IsOrigin x list place v (Step before step) =
     (before < place) × ((b : Visit) × IsAt list before b × LeadsHere x b v step)
 

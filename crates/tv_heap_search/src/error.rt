@@ -2,6 +2,7 @@
 
 ghost use Rattle.std.specs.Prelude.{◌≡◌};
 ghost use Rattle.tv_heap_search.specs.declared.error.SearchError.TheVariants.{Memory};
+ghost use Rattle.tv_heap_search.specs.declared.error.Unanswered.TheVariants as unanswered;
 
 use std::alloc::{AllocError, AllocFailed};
 use thiserror::Error;
@@ -45,6 +46,14 @@ impl<T: Drop> From<AllocFailed<T>> for SearchError {
 
     fn from(_failed: AllocFailed<T>) -> SearchError {
         SearchError::Memory
+    }
+}
+
+impl From<AllocError> for Unanswered {
+    ghost from_gives = { λ _ e. e ≡ unanswered.Memory };
+
+    fn from(_error: AllocError) -> Unanswered {
+        Unanswered::Memory
     }
 }
 

@@ -39,8 +39,9 @@ fn with_cells<'a>(x: &Request<'a>, cells: u32) -> Request<'a>
 /// `x.cells` cells.
 ///
 /// # Errors
-/// `Free` exactly where an action leaves a predicate free. `TooMany` where more than `x.most` heaps of so many
-/// cells were met, or more structures had to be split: with fewer cells there is no witness. Or memory ran out.
+/// `Free` exactly where an action leaves a predicate free. `TooMany` where more than `x.most` heaps of so
+/// many cells were met, or more structures had to be split: with fewer cells there is no witness. Or memory
+/// ran out.
 pub fn witness_of_fewest_cells(
     x: &Request<'_>,
     goal: &Goal<'_>,

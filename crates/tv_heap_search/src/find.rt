@@ -13,7 +13,8 @@ use crate::visits::Visits;
 use tv_eval::Scratch;
 use tv_witness_laws::{searches_end, witnesses_are_long};
 
-/// The first place from `from` on and before `to` at which a goal was met; what was met before it is followed.
+/// The first place from `from` on and before `to` at which a goal was met; what was met before it is
+/// followed.
 fn follow_level(
     x: &Quest<'_>,
     from: usize,

@@ -15,8 +15,8 @@ pub enum Goal<'a> {
     LiesIn(&'a Structure),
 }
 
-/// A program and a mode, the initial structures, the node at which a run shall end, how many individuals a heap
-/// may have, and how many heaps may be met.
+/// A program and a mode, the initial structures, the node at which a run shall end, how many individuals a
+/// heap may have, and how many heaps may be met.
 #[derive(Clone, Copy)]
 pub struct Request<'a> {
     pub alloc: Global,
@@ -29,8 +29,8 @@ pub struct Request<'a> {
     pub most: u64,
 }
 
-/// What a search is made by: how steps are made, the closed rules, the initial structures, how many heaps may be
-/// met, and where the run shall end in what heap.
+/// What a search is made by: how steps are made, the closed rules, the initial structures, how many heaps may
+/// be met, and where the run shall end in what heap.
 #[derive(Clone, Copy)]
 pub(crate) struct Quest<'a> {
     pub walker: Walker<'a>,

@@ -28,7 +28,8 @@ pub struct Visit {
     pub origin: Origin,
 }
 
-/// The heaps that were met, in the order in which they were met; and those that need not be met again, by node.
+/// The heaps that were met, in the order in which they were met; and those that need not be met again, by
+/// node.
 #[derive(Drop)]
 pub(crate) struct Visits {
     pub seen: Listing,

@@ -26,8 +26,8 @@ use tv_struct::{Structure, Table};
 use tv_update::order_of;
 use tv_witness_laws::replays_show_witnesses;
 
-/// A run of heaps of few cells to a goal, and the number of the first initial structure to which its start heap
-/// belongs.
+/// A run of heaps of few cells to a goal, and the number of the first initial structure to which its start
+/// heap belongs.
 #[derive(Debug, Drop)]
 pub struct Witness {
     pub initial: u32,
@@ -70,11 +70,12 @@ fn search(x: &Quest<'_>, scratch: &mut Scratch) -> Result<Option<Witness>, Searc
     Ok(Some(Witness { initial, track }))
 }
 
-/// A run of heaps of few cells to the goal with as few steps as any; none where no such run leads there. A witness
-/// that is given is one by the definition of runs, and its start heap and moves can be replayed.
+/// A run of heaps of few cells to the goal with as few steps as any; none where no such run leads there. A
+/// witness that is given is one by the definition of runs, and its start heap and moves can be replayed.
 ///
 /// # Errors
-/// `TooMany` where more heaps were met, or more structures had to be split, than are allowed. Or memory ran out.
+/// `TooMany` where more heaps were met, or more structures had to be split, than are allowed. Or memory ran
+/// out.
 pub fn shortest_witness(x: &Request<'_>, goal: &Goal<'_>) -> Result<Option<Witness>, SearchError>
     requires valid { IsValid (program_of x.now.program.now) }
     requires settled { AreAllSettled (program_of x.now.program.now).actions }

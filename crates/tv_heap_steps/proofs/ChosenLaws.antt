@@ -1,7 +1,9 @@
 -- All lists of so many individuals, and actions that leave nothing free.
 use Rattle.std.proofs.Common.{ℕ, zero, suc, ◌≡◌, ◌<◌, ◌+◌, ◌==◌, List, [], ◌∷◌, ◌++◌, length, map, take, get_or, All}
-use Rattle.std.proofs.Common.{Contains, append-nil, append_assoc, sym, ap, ◌∙◌, arith}
+use Rattle.std.proofs.Common.{Contains, append-nil, sym, ap, ◌∙◌, arith}
 use Rattle.std.specs.List.{flat_map, range_with_len}
+use Rattle.std.proofs.lemmas.Grind.{flat_map-append}
+use Rattle.std.proofs.lemmas.List.{take_more}
 use Rattle.std.proofs.lemmas.List.Elements.{All-contains, All-head, All-tail}
 use Rattle.tv_concrete.specs.Tuples.{tuples_of}
 use Rattle.tv_lemmas.proofs.Lists.{in_range}
@@ -25,11 +27,9 @@ tuple-found xs (suc n) (u ∷ us) long all =
 -- one more list gives one more part
 pub one_part_more : (f : List ℕ → List (List ℕ)) (xs : List (List ℕ)) (i : ℕ) (x : List ℕ) → i < length xs
     → x ≡ get_or xs i x → flat_map f (take (i + 1) xs) ≡ flat_map f (take i xs) ++ f x
-one_part_more f [] i x below is = absurd (omega (arith, below))
-one_part_more f (y ∷ xs) zero x below is = ap f (sym is) ∙ sym (append-nil (f x))
-one_part_more f (y ∷ xs) (suc i) x below is =
-    ap (λ ys. f y ++ ys) (one_part_more f xs i x (omega (arith, below)) is)
-    ∙ sym (append_assoc (f y) (flat_map f (take i xs)) (f x))
+one_part_more f xs i x below is =
+    ap (flat_map f) (take_more xs i x below ∙ ap (λ y. take i xs ++ y ∷ []) (sym is))
+    ∙ flat_map-append f (take i xs) (x ∷ []) ∙ ap (λ ys. flat_map f (take i xs) ++ ys) (append-nil (f x))
 
 -- each list of individuals of s for the picked variables is one of them
 pub chosen_listed : (action : ActionForm) (chosen : List ℕ) (s : StructureForm) → ArePicked action chosen s

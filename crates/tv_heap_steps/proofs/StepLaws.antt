@@ -1,6 +1,8 @@
 -- What a move tells of the fair steps by the same individuals.
 use Rattle.std.proofs.Common.{ℕ, ◌≡◌, ◌≢◌, ◌<◌, ◌≤◌, List, [], ◌∷◌, ◌++◌, length, map, Option}
-use Rattle.std.proofs.Common.{◌+◌, get_or, take}
+use Rattle.std.proofs.Common.{◌+◌, ◌↔◌, Bool, true, false, not, IsTrue, get_or, take}
+use Rattle.std.specs.Prelude.{is_some}
+use Rattle.std.proofs.lemmas.Bool.{false≢true}
 use Rattle.std.proofs.Common.{Some, None, All, AllPairs, Contains, refl, sym, ap, subst, ◌∙◌, arith}
 use Rattle.std.specs.Prelude.{IfSome, slice_get}
 use Rattle.std.specs.Option.{option_map}
@@ -11,7 +13,7 @@ use Rattle.std.proofs.lemmas.List.{append-nil, length-map, take_more}
 use Rattle.std.proofs.lemmas.List.Elements.{All-contains, All-push, All-weaker, Contains-append_left, Contains-push}
 use Rattle.std.proofs.lemmas.List.FromFn.{length-range_with_len}
 use Rattle.std.proofs.lemmas.Map.Made.{length-le_from_is_member, IsDistinct-from_AllPairs, is_member-Decides}
-use Rattle.std.proofs.lemmas.Option.{same_Some, slice_get-get_or}
+use Rattle.std.proofs.lemmas.Option.{same_Some, slice_get-get_or, slice_get-map}
 use Rattle.tv_concrete.specs.Tuples.{tuples_of}
 use Rattle.tv_eval.specs.ScratchForm.{ScratchForm}
 use Rattle.tv_model.specs.declared.formula.PredId.{PredId}
@@ -19,14 +21,17 @@ use Rattle.tv_model.specs.declared.program.Edge.{Edge}
 use Rattle.tv_model.specs.declared.program.Mode.{Mode}
 use Rattle.tv_model.specs.declared.program.Mode.TheVariants.{Given, Recompute}
 use Rattle.tv_model.specs.Heap.{Heap}
-use Rattle.tv_model.specs.Program.{ProgramForm, ActionForm}
+use Rattle.tv_model.specs.Program.{ProgramForm, ActionForm, action_of}
+use Rattle.tv_model.specs.declared.program.Action.{Action}
 use Rattle.tv_model.specs.Rules.{IsHeap}
 use Rattle.tv_model.specs.Step.{AgreesWithGiven}
-use Rattle.tv_model.specs.Valid.{IsValid}
+use Rattle.tv_model.specs.Valid.{IsEdge, IsValid}
 use Rattle.tv_renaming_laws.specs.Renamed.{renamed}
 use Rattle.tv_renaming_laws.proofs.Heaps.{heap-renamed}
 use Rattle.tv_replay_laws.specs.Judged.{AgreesAt, IsFirst}
-use Rattle.tv_replay_laws.specs.JudgedRules.{judged_rules}
+use Rattle.tv_lemmas.proofs.Lists.{All-found}
+use Rattle.tv_model.specs.Rules.{MeetsRule}
+use Rattle.tv_replay_laws.specs.JudgedRules.{IsFirstUnmet, judged_rules}
 use Rattle.tv_replay_laws.specs.Next.{kept_individual, middle_of, picked_by}
 use Rattle.tv_replay_laws.specs.Stuck.{AreValuesFor, IsFirstFailure, Standing, Taken}
 use Rattle.tv_replay_laws.specs.declared.state.Why.{Why}
@@ -155,19 +160,48 @@ module _ (walker : Walker) (edge : ℕ) (s : StructureForm) (small : IsSmallHeap
       fails.4 (λ kept are. subst (λ values. AreValuesFor t.action (length kept) values) (sym by.values_are)
       (none_free t.action (subst (λ (a : ActionForm). AreSettled a.updates) (sym (same_action t)) to.settled)))
 
+-- ---- what is judged of it
+
+pub accepted_so : (p : ProgramForm) (mode : Mode) (cells : ℕ) (x : Moved) → x.heap.size ≤ cells
+    → IsUnbrokenBy mode x.broken → (u : Option ℕ) → IsFirstUnmet (heap_of x.heap) (judged_rules p) u → (b : Bool)
+    → is_some u ≡ not b → IsTrue b ↔ IsAccepted p mode cells x
+accepted_so p mode cells x small unbroken None unmet true none =
+    (λ t_. record { small = small; unbroken = unbroken; rules = unmet }, λ a. refl)
+accepted_so p mode cells x small unbroken None unmet false none = absurd (false≢true none)
+accepted_so p mode cells x small unbroken (Some n) unmet true none = absurd (false≢true (sym none))
+accepted_so p mode cells x small unbroken (Some n) unmet false none = (
+  λ no_. absurd (false≢true no_),
+  λ a. absurd (unmet.0.2
+      (All-found (MeetsRule (heap_of x.heap)) (judged_rules p) n unmet.0.0 a.rules unmet.0.1)),
+)
+
 -- ---- what a try of the chosen individuals answers
 
 -- the edge as it is taken from the program's
-pub edge_there : (walker : Walker) (edge : ℕ) (edges : List Edge) → edges ≡ (program_in walker).edges
+pub edge_is : (walker : Walker) (edge : ℕ) (edges : List Edge) → edges ≡ (program_in walker).edges
     → edge < length (program_in walker).edges
-    → (taken : Edge) × (slice_get (program_in walker).edges edge ≡ Some taken)
-    × (taken ≡ get_or edges edge (record { from = 0; action = 0; to = 0 }))
-edge_there walker edge edges same within = (
-  get_or edges edge (record { from = 0; action = 0; to = 0 }),
-  subst (λ es. slice_get (program_in walker).edges edge ≡ Some (get_or es edge (record { from = 0; action = 0; to = 0 })))
-      (sym same) (slice_get-get_or (program_in walker).edges edge (record { from = 0; action = 0; to = 0 }) within),
-  refl,
-)
+    → slice_get (program_in walker).edges edge ≡ Some (get_or edges edge (record { from = 0; action = 0; to = 0 }))
+edge_is walker edge edges same within =
+    subst (λ es. slice_get (program_in walker).edges edge
+    ≡ Some (get_or es edge (record { from = 0; action = 0; to = 0 }))) (sym same)
+    (slice_get-get_or (program_in walker).edges edge (record { from = 0; action = 0; to = 0 }) within)
+
+-- and so its action
+pub action_is : (walker : Walker) → IsValid (program_in walker) → (edge : ℕ) (taken : Edge)
+    → slice_get (program_in walker).edges edge ≡ Some taken
+    → (actions : List Action) → actions ≡ walker.ordered.program.now.actions
+    → (a : Action) → a ≡ get_or actions taken.action a
+    → slice_get (program_in walker).actions taken.action ≡ Some (action_of a)
+action_is walker valid edge taken its actions same a is =
+    let all : List Action = walker.ordered.program.now.actions
+    in let below : taken.action < length (map action_of all)
+    = (All-contains (IsEdge (program_in walker)) (program_in walker).edges taken valid.edges
+    (slice_get-contains (program_in walker).edges edge taken its)).2
+    in let within : taken.action < length actions = omega (arith, below, length-map all action_of, ap length same)
+    in let there : slice_get actions taken.action ≡ Some a
+    = slice_get-get_or actions taken.action a within ∙ ap Some (sym is)
+    in slice_get-map action_of all taken.action
+    ∙ ap (λ xs. option_map action_of (slice_get xs taken.action)) (sym same) ∙ ap (option_map action_of) there
 
 -- the move may be tried
 pub move_on : (walker : Walker) (edge : ℕ) (chosen : List ℕ) (move : Move) → IsMoveBy edge chosen move

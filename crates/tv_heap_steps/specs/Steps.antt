@@ -1,5 +1,6 @@
 -- The heaps of few cells to which the fair steps from a heap lead.
-use Rattle.std.specs.Prelude.{ℕ, ◌≡◌, ◌<◌, ◌≤◌, List, [], ◌∷◌, map, Option, Some, None, All, Contains, slice_get, ⊤}
+use Rattle.std.specs.Prelude.{ℕ, ◌≡◌, ◌<◌, ◌≤◌, List, [], ◌∷◌, map, Option, Some, None, All, Contains}
+use Rattle.std.specs.Prelude.{slice_get, ⊤}
 use Rattle.tv_eval.specs.ScratchForm.{ScratchForm, IsMadeFor}
 use Rattle.tv_model.specs.declared.formula.PredId.{PredId}
 use Rattle.tv_model.specs.declared.program.Edge.{Edge}
@@ -27,8 +28,8 @@ use Rattle.tv_heap_steps.specs.declared.walker.Walker.{Walker}
 abbrev pub program_in : Walker → ProgramForm
 program_in walker = program_of walker.ordered.program.now
 
--- the program is valid and leaves nothing free, the order is of all its definitions, the rules are those of its
--- properties, there is room to evaluate its formulas, and a heap of so many cells has place for one more
+-- the program is valid and leaves nothing free, the order is of all its definitions, the rules are those of
+-- its properties, there is room to evaluate its formulas, and a heap of so many cells has place for one more
 pub record IsReadyToWalk (walker : Walker) (scratch : ScratchForm) : Type 0 where
   pub valid : IsValid (program_in walker)
   pub settled : AreAllSettled (program_in walker).actions

@@ -103,8 +103,8 @@ fn steps_by(
     Ok(all)
 }
 
-/// The steps along the edge from the heap that `s` stands for: each is a fair step to a heap of few cells, and
-/// each such heap is a copy of one to which one of these leads. The scratch is given back as it was.
+/// The steps along the edge from the heap that `s` stands for: each is a fair step to a heap of few cells,
+/// and each such heap is a copy of one to which one of these leads. The scratch is given back as it was.
 ///
 /// # Errors
 /// Lack of memory.

@@ -10,7 +10,8 @@ use Rattle.tv_model.specs.declared.program.Vocab.{Vocab}
 use Rattle.tv_show.specs.Line.{line_of}
 use Rattle.tv_trace_text.specs.Text.{picks_text}
 
--- the edge that is taken, by its head among these, the individuals that are picked, and the heap that comes of it
+-- the edge that is taken, by its head among these, the individuals that are picked, and the heap that comes
+-- of it
 abbrev pub leg_line : Vocab → (heads : List (List ℕ)) → Leg → List ℕ
 leg_line vocab heads leg =
     numbered_edge leg.step.edge (head_at heads leg.step.edge)
@@ -20,7 +21,8 @@ abbrev pub leg_lines : Vocab → (heads : List (List ℕ)) → List Leg → List
 leg_lines vocab heads [] = []
 leg_lines vocab heads (leg ∷ legs) = leg_line vocab heads leg ++ leg_lines vocab heads legs
 
--- the start heap behind the number of its initial structure, and step by step what is taken and what comes of it
+-- the start heap behind the number of its initial structure, and step by step what is taken and what comes of
+-- it
 abbrev pub run_text : Vocab → (heads : List (List ℕ)) → Witness → List ℕ
 run_text vocab heads w = opening_line vocab w.initial w.track.start ++ leg_lines vocab heads w.track.legs
 

@@ -43,7 +43,8 @@ fn told(
 ) -> Result<WitnessReport, AllocError>
     requires valid { IsValid (program_of x.now.program.now) }
     requires over { IsFoundOver x.now.program.now.vocab found.now }
-    ensures { IfOk result (TellsAnswer (task_of x.now) sentence.now.edge sentence.now.number sentence.now.text.now
+    ensures { IfOk result
+        (TellsAnswer (task_of x.now) sentence.now.edge sentence.now.number sentence.now.text.now
         found.now) }
 {
     match found {
@@ -58,13 +59,13 @@ fn told(
     }
 }
 
-/// What is told of the message of this number among those of the edge's action: a witness of as few cells as any, and
-/// among these of as few steps, or that there is none with at most so many cells.
+/// What is told of the message of this number among those of the edge's action: a witness of as few cells as
+/// any, and among these of as few steps, or that there is none with at most so many cells.
 ///
 /// # Errors
-/// `Free` exactly where an action of the program leaves a predicate free. `TooMany` where more heaps of so many cells
-/// were met, or more structures had to be split, than are allowed: with fewer cells there is no witness. Or memory ran
-/// out.
+/// `Free` exactly where an action of the program leaves a predicate free. `TooMany` where more heaps of so
+/// many cells were met, or more structures had to be split, than are allowed: with fewer cells there is no
+/// witness. Or memory ran out.
 pub fn explain_witness(
     alloc: Global,
     x: &Searched<'_>,

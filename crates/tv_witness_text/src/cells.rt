@@ -22,8 +22,8 @@ fn largest(structures: &[Structure]) -> u32
     most
 }
 
-/// How many individuals a heap may have: as the words say, else 2 more than the largest initial structure has, and 4
-/// at least; 255 at most.
+/// How many individuals a heap may have: as the words say, else 2 more than the largest initial structure
+/// has, and 4 at least; 255 at most.
 pub fn cells_for(cells: Option<u32>, initial: &[Structure]) -> u32
     ensures is { result ≡ cells_for cells initial.now }
     ensures few { result < 256 }

@@ -107,9 +107,9 @@ fn append_true(
     out.extend_from_slice(b"\"\n")
 }
 
-/// The run of a witness of a program whose edges have these heads, and behind it the line of the message that is true
-/// at its end: `initial NUMBER` and the start heap in one line; for each step in one line `edge NUMBER`, the edge's
-/// head, the individuals that are picked, and the heap to which the step leads.
+/// The run of a witness of a program whose edges have these heads, and behind it the line of the message that
+/// is true at its end: `initial NUMBER` and the start heap in one line; for each step in one line `edge
+/// NUMBER`, the edge's head, the individuals that are picked, and the heap to which the step leads.
 ///
 /// # Errors
 /// Lack of memory.

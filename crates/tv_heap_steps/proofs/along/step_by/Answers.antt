@@ -1,10 +1,11 @@
-use Rattle.std.proofs.Common.{List, ◌≡◌, Some, get_or, refl, subst, sym}
-use Rattle.std.specs.Prelude.{slice_get}
-use Rattle.std.proofs.lemmas.Option.{slice_get-get_or}
+use Rattle.std.proofs.Common.{◌∙◌, get_or, refl, subst, sym}
+use Rattle.std.proofs.lemmas.Bool.{false≢true}
 use Rattle.tv_model.specs.declared.program.Edge.{Edge}
 use Rattle.tv_replay_judge.specs.Ready.{IsReadyToEvaluate}
+use Rattle.tv_replay_step.specs.Stepped.{Halts}
+use Rattle.tv_replay_step.specs.declared.moved.Halt.{Halt}
 use Rattle.tv_heap_steps.specs.Steps.{program_in}
-use Rattle.tv_heap_steps.proofs.StepLaws.{edge_there, move_on, ready_moved, step_dropped, step_made, step_stuck}
+use Rattle.tv_heap_steps.proofs.StepLaws.{edge_is, move_on, ready_moved, step_dropped, step_made, step_stuck}
 use Rattle.tv_heap_steps.proofs.along.step_by.Goals as goal
 
 pub next-requires-clause-step : goal.next-requires-clause-step
@@ -14,27 +15,38 @@ next-requires-clause-step c =
 pub is_accepted-requires-clause-heap : goal.is_accepted-requires-clause-heap
 is_accepted-requires-clause-heap c =
     let walker = c.args.walker.now
-    in let there = edge_there walker c.args.edge c.as_slice.result.now c.as_slice.ensures c.requires.edge
+    in let taken : Edge = get_or c.as_slice.result.now c.args.edge (record { from = 0; action = 0; to = 0 })
+    in let its = edge_is walker c.args.edge c.as_slice.result.now c.as_slice.ensures c.requires.edge
     in subst (IsReadyToEvaluate (program_in walker) c.in-Ok.moved.heap) (sym c.next.ensures.scratch)
     (ready_moved walker c.args.scratch.now c.requires.ready c.args.edge c.args.s.now c.requires.heap c.args.chosen.now
-    c.in_ok-step.step c.in_ok-step.ensures there.0 there.1 c.in-Ok.moved c.in-Ok.ensures.moved)
+    c.in_ok-step.step c.in_ok-step.ensures taken its c.in-Ok.moved c.in-Ok.ensures.moved)
 
 pub returns-then-branch-clause-step : goal.returns-then-branch-clause-step
 returns-then-branch-clause-step c =
     let walker = c.args.walker.now
-    in let there = edge_there walker c.args.edge c.as_slice.result.now c.as_slice.ensures c.requires.edge
+    in let taken : Edge = get_or c.as_slice.result.now c.args.edge (record { from = 0; action = 0; to = 0 })
+    in let its = edge_is walker c.args.edge c.as_slice.result.now c.as_slice.ensures c.requires.edge
     in step_made walker c.args.scratch.now c.requires.ready c.args.edge c.args.s.now c.requires.heap c.args.chosen.now
-    c.in_ok-step.step c.in_ok-step.ensures there.0 there.1 c.moves_lead_everywhere.ensures c.in-Ok.moved
+    c.in_ok-step.step c.in_ok-step.ensures taken its c.moves_lead_everywhere.ensures c.in-Ok.moved
     c.in-Ok.ensures.moved (record { step = c.in_ok-step.step; moved = c.in-Ok.moved }) refl
-    (c.in_ok-is_accepted.ensures.accepted.0 c.if-branch.true)
+    (c.in_ok-is_accepted-in-Ok.ensures.accepted.0 c.if-branch.true)
 
-pub returns-else-branch-clause-step : goal.returns-else-branch-clause-step
-returns-else-branch-clause-step c =
+pub returns-in-Ok-clause-step : goal.returns-in-Ok-clause-step
+returns-in-Ok-clause-step c =
     let walker = c.args.walker.now
-    in let there = edge_there walker c.args.edge c.as_slice.result.now c.as_slice.ensures c.requires.edge
+    in let taken : Edge = get_or c.as_slice.result.now c.args.edge (record { from = 0; action = 0; to = 0 })
+    in let its = edge_is walker c.args.edge c.as_slice.result.now c.as_slice.ensures c.requires.edge
     in step_dropped walker c.args.scratch.now c.requires.ready c.args.edge c.args.s.now c.requires.heap c.args.chosen.now
-    c.in_ok-step.step c.in_ok-step.ensures there.0 there.1 c.moves_lead_everywhere.ensures c.in-Ok.moved
-    c.in-Ok.ensures.moved (λ is. ?)
+    c.in_ok-step.step c.in_ok-step.ensures taken its c.moves_lead_everywhere.ensures c.in-Ok.moved
+    c.in-Ok.ensures.moved
+    (λ is. false≢true (sym c.if-branch.false ∙ c.in_ok-is_accepted-in-Ok.ensures.accepted.1 is))
 
 pub returns-in-Err-Stuck-clause-step : goal.returns-in-Err-Stuck-clause-step
-returns-in-Err-Stuck-clause-step c = ?
+returns-in-Err-Stuck-clause-step c =
+    let walker = c.args.walker.now
+    in let taken : Edge = get_or c.as_slice.result.now c.args.edge (record { from = 0; action = 0; to = 0 })
+    in let its = edge_is walker c.args.edge c.as_slice.result.now c.as_slice.ensures c.requires.edge
+    in step_stuck walker c.args.scratch.now c.requires.ready c.args.edge c.args.s.now c.requires.heap c.args.chosen.now
+    c.in_ok-step.step c.in_ok-step.ensures taken its c.in-Err-Stuck.field-0-0
+    (subst (λ (h : Halt). Halts (program_in walker) c.in_ok-step.step (record { node = taken.from; heap = c.args.s.now }) h)
+    c.in-Err-Stuck.field-0-is c.in-Err-Stuck.ensures.halt)

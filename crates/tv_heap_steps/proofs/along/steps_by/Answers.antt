@@ -1,5 +1,6 @@
-use Rattle.std.proofs.Common.{List, ℕ, subst, sym}
-use Rattle.tv_heap_steps.specs.Steps.{IsReadyToWalk, IsStepBy}
+use Rattle.std.proofs.Common.{All, List, ℕ, subst}
+use Rattle.std.proofs.lemmas.List.{take_all}
+use Rattle.tv_heap_steps.specs.Steps.{IsPassed, IsStepBy}
 use Rattle.tv_heap_steps.proofs.StepLaws.{steps_next}
 use Rattle.tv_heap_steps.proofs.along.steps_by.Goals as goal
 
@@ -14,3 +15,8 @@ loop-chosen-preserved c =
     c.in_ok-found.ensures.step)
     c.loop-chosen.invariant.each c.loop-chosen.invariant.passed
     in record { each = next.0; passed = next.1; scratch = cc }
+
+pub returns-clause-all : goal.returns-clause-all
+returns-clause-all c =
+    subst (All (IsPassed c.args.walker.now c.args.edge c.args.s.now c.loop-chosen.all.items))
+    (take_all c.loop-chosen.chosen-index c.args.lists.now c.loop-chosen-test.false) c.loop-chosen.invariant.passed
