@@ -1,7 +1,7 @@
 #!/usr/bin/env bash
 # Builds a fast program of the sources as they stand, without a proof: bench/unproved.sh PROGRAM [CRATE], of the crate tvla or the one
-# given. It is no program to trust: it serves to measure, and as .ci/build --unproved lays it for ./tvla and ./tvla-explain. `rt try` compiles what it runs; a compiler put before the kit's keeps what it is given. From
-# that the tests are taken out that a proof makes needless (of bounds, overflow and alignment, each before a trap), and the values that
+# given. It is no program to trust: it serves to measure, and as .ci/build --unproved lays it for ./tvla and ./tvla-explain. `rt try`
+# compiles what it runs; a compiler put before the kit's keeps what it is given. From that the tests are taken out that a proof makes needless (of bounds, overflow and alignment, each before a trap), and the values that
 # locals are filled with; the rest is compiled as a proved program is. Counted in machine instructions it is within a few in a hundred of
 # the proved program, and has the names of functions for a profile (valgrind --tool=callgrind).
 set -eu

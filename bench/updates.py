@@ -3,9 +3,9 @@
 heap of at most CELLS cells (3, unless it is said) that meets the rules, for all picked individuals. bench/updates.py PROGRAM CELLS INITIAL
 takes the heaps of so many cells that belong to a structure of INITIAL, and all that runs of at most CELLS cells make of them, each along the
 edges of its node. Both tell each update that isn't what the definition says afterwards, with a heap of the fewest cells, and of how many
-steps the new heap breaks a rule (those aren't steps of runs). Heaps are taken once, up to the names of their cells. It ends with 1 where an
-update differs."""
-import collections, importlib.machinery, importlib.util, itertools, os, sys
+steps the new heap breaks a rule (those aren't steps of runs); along runs also which step breaks which rule. Heaps are taken once, up to
+the names of their cells. It ends with 1 where an update differs."""
+import collections, functools, importlib.machinery, importlib.util, itertools, os, sys
 
 loader = importlib.machinery.SourceFileLoader("lint", os.path.join(os.path.dirname(os.path.dirname(os.path.abspath(__file__))), "tvla-lint"))
 sys.dont_write_bytecode = True
@@ -113,6 +113,20 @@ def free(formula):
         return list(dict.fromkeys([*parts[0], *(it for it in free(parts[2]) if it not in parts[1])]))
     return list(dict.fromkeys(it for part in parts if isinstance(part, tuple) for it in free(part)))
 
+@functools.cache
+def orders(cells):
+    """All relations of these cells that are transitive and reflexive."""
+    if not cells:
+        return [set()]
+    *others, last = cells
+    found = []
+    for order in orders(tuple(others)):
+        for below, above in itertools.product(*2 * [[it for count in range(len(others) + 1) for it in itertools.combinations(others, count)]]):
+            grown = order | {(last, last)} | {(u, last) for u in below} | {(last, u) for u in above}
+            if all((u, w) in grown for u, v in grown for x, w in grown if v == x):
+                found.append(grown)
+    return found
+
 class Program:
     def __init__(self, path):
         self.core, self.defined, self.rules, names = {}, {}, [], {}
@@ -162,6 +176,8 @@ class Program:
             return [set(), *({(u,)} for u in cells)]
         if arity == 2 and "function" in properties:
             return [{(u, v) for u, v in zip(cells, to) if v is not None} for to in itertools.product([None, *cells], repeat=len(cells))]
+        if {"transitive", "reflexive"} <= {*properties}:
+            return orders(tuple(cells))
         tuples = list(itertools.product(cells, repeat=arity))
         return [set(some) for count in range(len(tuples) + 1) for some in itertools.combinations(tuples, count)]
 
@@ -202,7 +218,8 @@ class Program:
             def values(name, cells):
                 tuples = list(itertools.product(cells, repeat=self.core[name][0]))
                 fits = [it for it in tuples if allows(name, it, True)]
-                if "function" in self.core[name][1] or "unique" in self.core[name][1]:
+                properties = {*self.core[name][1]}
+                if properties & {"function", "unique"} or properties >= {"transitive", "reflexive"}:
                     found = (it for it in self.values(name, cells) if it <= set(fits))
                 else:
                     sure = [it for it in fits if not allows(name, it, False)]
@@ -251,8 +268,8 @@ class Action:
                     self.updates[text] = len(variables), compiled(formula, env, [*self.picked, *variables])[0]
 
     def steps(self, program, heap, cells):
-        """For all that may be picked, and all that free updates may give: the heap afterwards, its cells, and what the given updates of
-        defined predicates say."""
+        """For all that may be picked, and all that free updates may give: what is picked, the heap afterwards, its cells, and what the
+        given updates of defined predicates say."""
         fresh = next(u for u in range(len(cells) + 1) if u not in cells) if self.is_new else None
         middle = [*cells, fresh] if self.is_new else cells
         for picks in itertools.product(cells, repeat=len(self.picked)):
@@ -265,7 +282,7 @@ class Action:
                 given = {**said, **dict(zip(self.free, values))}
                 after = {name: given[name] if name in given else {at for at in heap[name] if set(at) <= set(left)} for name in program.core}
                 program.define(after, left, list(program.defined))
-                yield after, left, {name: it for name, it in said.items() if name in program.defined}
+                yield picks, after, left, {name: it for name, it in said.items() if name in program.defined}
 
 def told(heap, program):
     return ", ".join(f"{name} = {{{', '.join('->'.join(map(str, at)) for at in sorted(heap[name]))}}}" for name in program.core if heap[name])
@@ -292,22 +309,33 @@ def structures(path):
 
 class Trial:
     def __init__(self, program):
-        self.program, self.counts, self.differs = program, collections.Counter(), {}
+        self.program, self.counts, self.differs, self.breaks = program, collections.Counter(), {}, {}
         self.actions = {call: Action(parts, program) for call, parts in program.edges}
 
     def step(self, call, heap, cells):
-        """The heaps behind the step that meet the rules, each with its cells."""
+        """The heaps behind the step that meet the rules, each with its cells. Free updates give what the rules allow, so a rule is broken
+        where nothing that they may give for what is picked meets it."""
         (name, *arguments), program = call, self.program
-        for after, left, said in self.actions[call].steps(program, heap, cells):
-            self.counts["steps"] += 1
+        written, kept, breaks = f"{name}({', '.join(arguments)})", set(), {}
+        for picks, after, left, said in self.actions[call].steps(program, heap, cells):
             wrong = [it for it in said if said[it] != after[it]]
-            if program.first_broken(after, left, program.rules):
-                self.counts["steps that break a rule"] += 1
+            broken = program.first_broken(after, left, program.rules)
+            if broken:
+                breaks.setdefault(picks, broken)
                 continue
+            kept.add(picks)
+            self.counts["steps"] += 1
             if wrong:
-                self.differs.setdefault((f"{name}({', '.join(arguments)})", wrong[0]), (len(cells), told(heap, program)))
+                self.note(self.differs, (written, wrong[0]), heap, cells)
                 self.counts["updates that differ"] += 1
             yield after, left
+        for picks in breaks.keys() - kept:
+            self.note(self.breaks, (written, breaks[picks]), heap, cells)
+            self.counts["steps that break a rule"] += 1
+
+    def note(self, where, what, heap, cells):
+        if what not in where or len(cells) < where[what][0]:
+            where[what] = len(cells), told(heap, self.program)
 
     def every_heap(self, most):
         for size in range(most + 1):
@@ -339,6 +367,8 @@ def main(path, most="3", *initial):
     trial.runs(int(most), *initial) if initial else trial.every_heap(int(most))
     for (call, name), (size, heap) in sorted(trial.differs.items(), key=lambda it: it[1][0]):
         print(f"{call}: the update of {name} differs, {size} cells: {heap or 'nothing holds'}")
+    for (call, rule), (size, heap) in sorted(trial.breaks.items() if initial else (), key=lambda it: it[1][0]):
+        print(f"{call}: a step breaks {rule}, {size} cells: {heap or 'nothing holds'}")
     print(f"{path}: " + ", ".join(f"{trial.counts[it]:,} {it}" for it in ("heaps", "steps", "steps that break a rule", "updates that differ")))
     return bool(trial.differs) or not trial.counts["heaps"]
 
