@@ -1,6 +1,8 @@
 //! Whether a heap is as it is asked for.
 
 ghost use Rattle.std.specs.Prelude.{◌≡◌, ◌↔◌, IfOk, IsTrue};
+ghost use Rattle.tv_eval.specs.AssignmentForm.{assignment_of};
+ghost use Rattle.tv_eval.specs.Formulas.{AreAssigned};
 ghost use Rattle.tv_heap_search.specs.Quests.{CanAsk, CanTell, IsReadyQuest, aim_of};
 ghost use Rattle.tv_heap_search.specs.Visited.{IsGoal};
 ghost use Rattle.tv_heap_steps.specs.Steps.{IsSmallHeap};
@@ -19,6 +21,20 @@ use tv_model::Formula;
 use tv_struct::Structure;
 use tv_two_valued::holds;
 
+/// Whether the condition is true under the assignment in the heap that `s` stands for. The scratch is given back
+/// as it was.
+fn is_true(cond: &Formula, s: &Structure, a: &Assignment, scratch: &mut Scratch) -> bool
+    requires can { CanTell s.now scratch.old (form_of cond.now) }
+    requires assigned { AreAssigned s.now.size a.now (form_of cond.now) }
+    ensures truth { IsTrue result ↔ Truth (heap_of s.now) (assignment_of a.now) (form_of cond.now) }
+    ensures scratch { scratch.new ≡ scratch.old }
+{
+    let mut evaluator = Evaluator::new(s, scratch);
+    let answer = holds(&mut evaluator, cond, a);
+    evaluator.finish(scratch);
+    answer
+}
+
 /// Whether the condition is true in the heap that `s` stands for. The scratch is given back as it was.
 fn makes(cond: &Formula, s: &Structure, scratch: &mut Scratch) -> bool
     requires can { CanTell s.now scratch.old (form_of cond.now) }
@@ -26,10 +42,7 @@ fn makes(cond: &Formula, s: &Structure, scratch: &mut Scratch) -> bool
     ensures scratch { scratch.new ≡ scratch.old }
 {
     let nobody = Assignment::new();
-    let mut evaluator = Evaluator::new(s, scratch);
-    let answer = holds(&mut evaluator, cond, &nobody);
-    evaluator.finish(scratch);
-    answer
+    is_true(cond, s, &nobody, scratch)
 }
 
 /// Whether the heap that `s` stands for is as it is asked for. The scratch is given back as it was.

@@ -1,7 +1,7 @@
 -- What is written of moves is read as these moves.
 use Rattle.std.proofs.Common.{ℕ, suc, ◌≡◌, ◌<◌, ◌^◌, ◌⊎◌, inl, inr, List, [], ◌∷◌, ◌++◌, length, map, Option, Some, None}
 use Rattle.std.proofs.Common.{Ok, true, false, refl, sym, ap, subst, ◌∙◌, append_assoc, arith}
-use Rattle.std.specs.Prelude.{All, codes, decimal, is_some}
+use Rattle.std.specs.Prelude.{All, IfSome, codes, decimal}
 use Rattle.std.specs.List.{AllByRecursion}
 use Rattle.std.proofs.lemmas.List.{append-nil}
 use Rattle.tv_lex.specs.Pieces.{Fits, Stands, joined_pieces}
@@ -205,11 +205,7 @@ step_whole edge picks values rest =
 
 values_read : (program : Program) (move : Move) → IsWrittenMove program move → (s : StructureForm)
     → move.values ≡ Some s → IsRead program.vocab s
-values_read program move is s e = subst (λ (o : Option StructureForm). Reads o) e is.on.1
-  where
-    Reads : Option StructureForm → Type 0
-    Reads None = Unit {0}
-    Reads (Some t) = IsRead program.vocab t
+values_read program move is s e = subst (λ (o : Option StructureForm). IfSome o (IsRead program.vocab)) e is.on.1
 
 traced : (program : Program) → IsWritable program.vocab → (moves : List Move) → All (IsWrittenMove program) moves
     → Traced program moves

@@ -5,6 +5,3 @@ pub is_aimed_at-requires : goal.is_aimed_at-requires
 is_aimed_at-requires c =
     can_ask c.args.x.now.walker c.args.scratch.now c.args.x.now.goal c.args.visit.now.heap c.requires.ready.walk
     c.requires.ready.goal c.requires.heap
-
-pub returns-clause-goal : goal.returns-clause-goal
-returns-clause-goal c = ?
