@@ -41,8 +41,8 @@ use Rattle.tv_heap_search.proofs.Growing.{at_cases, at_on, at_once, grows_on, gr
 origin_more : (x : Quest) (list more : List Visit) (place later : ℕ) (v : Visit) (o : Origin) → place ≤ later
     → IsOrigin x list place v o → IsOrigin x (list ++ more) later v o
 origin_more x list more place later v Start le is = is
-origin_more x list more place later v (Step before step) le (less, b, at, leads) =
-    (omega (arith, less, le), b, still_at list more before b at, leads)
+origin_more x list more place later v (Step before step) le (less, (b, at, leads)) =
+    (omega (arith, less, le), (b, still_at list more before b at, leads))
 
 module _ (x : Quest) (P : Visit → Type 0) (old new : Visits) (kept : IsSearch x old) (grows : Grows P old new)
     (each : (v : Visit) → P v → IsVisit x old.list.items (length old.list.items) v) where
@@ -157,9 +157,7 @@ module _ (x : Quest) (valid : IsValid (program_in x.walker)) (before : ℕ) (b :
         (slice_get-contains (program_in x.walker).edges led.step.edge moved.moves.taken.edge moved.moves.taken.its_edge)).1;
     origin = (
       within,
-      b,
-      at,
-      record { moved = led.moved; node = refl; heap = refl; is = moved; accepted = accepted },
+      (b, at, record { moved = led.moved; node = refl; heap = refl; is = moved; accepted = accepted }),
     );
   }
 

@@ -127,16 +127,16 @@ module _ (x : Quest) (list : List Visit) (place before : ℕ) (v : Visit) (step 
   origin = subst (IsOrigin x list place v) e visit.origin
 
   abbrev b : Visit
-  b = origin.1
+  b = origin.1.0
 
   leads : LeadsHere x b v step
-  leads = origin.2.1
+  leads = origin.1.2
 
   abbrev last : State
   last = last_shown (state_at w.start) trace.later
 
   same_visit : trace.visit ≡ b
-  same_visit = at_once list before trace.visit b trace.is_at origin.2.0
+  same_visit = at_once list before trace.visit b trace.is_at origin.1.1
 
   stands : (node : ℕ) (s : StructureForm) → last.node ≡ node → last.heap ≡ s
       → standing last ≡ record { node = node; heap = s }
@@ -254,7 +254,7 @@ module _ (x : Quest) (valid : IsValid (program_in x.walker)) (list : List Visit)
   is_goal = goal trace.visit trace.is_at
 
   unbroken : (mode : Mode) → IsUnbrokenIn mode (state_at w.start) trace.later → IsUnbrokenIn mode first trace.later
-  unbroken Given all = with_first {IsUnbroken} refl (λ z is. is) all
+  unbroken Given all = with_first {P = IsUnbroken} refl (λ z is. is) all
   unbroken Recompute one = refl
 
   abbrev whole : Witness
@@ -290,10 +290,10 @@ module _ (x : Quest) (valid : IsValid (program_in x.walker)) (list : List Visit)
     heaps = trace.heaps;
     accepted = record {
       initial = search rules;
-      rules = with_first {MeetsRules} refl (λ z is. is) trace.rules;
+      rules = with_first {P = MeetsRules} refl (λ z is. is) trace.rules;
       unbroken = unbroken x.walker.mode trace.unbroken;
     };
-    small = with_first {IsSmallState x.walker.cells} trace.heap.small (λ z is. is) trace.small;
+    small = with_first {P = IsSmallState x.walker.cells} trace.heap.small (λ z is. is) trace.small;
     node = last_node w.start (Some c) trace.later ∙ trace.node ∙ is_goal.0;
     aim = subst (λ (s : StructureForm). IsAimedAt (aim_of x.goal) (heap_of s))
         (sym (last_heap-same w.start (Some c) trace.later ∙ trace.ends)) is_goal.1;
