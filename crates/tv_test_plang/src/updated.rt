@@ -24,16 +24,16 @@ x = y->n\t%action A0() { %f \
 r[n,x](v) = r[n,y](v) & (!y(v) | (E(v_1) r[n,y](v_1) & n(v_1, v))) } } %% S0 A0() Exit
 x->n = y\t%action A0() { %f { x(v), y(v) } %p E(v) x(v) %message !(E(v) x(v)) -> \"null dereference of x\" \
 { n(v_1, v_2) = x(v_1) & y(v_2) | !x(v_1) & n(v_1, v_2) \
-r[n,x](v) = x(v) | (E(v_1) x(v_1) & r[n,x](v_1)) & (r[n,y](v) & (!r[n,x](v) | (x(v) | \
-(E(v_1) y(v_1) & (v_1 == v | TC (v_1, v) (v_2, v_3) (!x(v_2) & n(v_2, v_3))))))) \
-r[n,y](v) = (r[n,y](v) & (!r[n,x](v) | (x(v) | \
-(E(v_1) y(v_1) & (v_1 == v | TC (v_1, v) (v_2, v_3) (!x(v_2) & n(v_2, v_3))))))) \
-| (E(v_1) x(v_1) & r[n,y](v_1)) & (r[n,y](v) & (!r[n,x](v) | (x(v) | \
-(E(v_1) y(v_1) & (v_1 == v | TC (v_1, v) (v_2, v_3) (!x(v_2) & n(v_2, v_3))))))) } } %% S0 A0() Exit
+r[n,x](v) = x(v) | (E(v_1) x(v_1) & r[n,x](v_1)) & (r[n,y](v) & (!(E(v_1) x(v_1) & r[n,y](v_1)) | (!r[n,x](v) | (x(v) | \
+(E(v_1) y(v_1) & (v_1 == v | TC (v_1, v) (v_2, v_3) (!x(v_2) & n(v_2, v_3)))))))) \
+r[n,y](v) = (r[n,y](v) & (!(E(v_1) x(v_1) & r[n,y](v_1)) | (!r[n,x](v) | (x(v) | \
+(E(v_1) y(v_1) & (v_1 == v | TC (v_1, v) (v_2, v_3) (!x(v_2) & n(v_2, v_3)))))))) \
+| (E(v_1) x(v_1) & r[n,y](v_1)) & (r[n,y](v) & (!(E(v_1) x(v_1) & r[n,y](v_1)) | (!r[n,x](v) | (x(v) | \
+(E(v_1) y(v_1) & (v_1 == v | TC (v_1, v) (v_2, v_3) (!x(v_2) & n(v_2, v_3)))))))) } } %% S0 A0() Exit
 y->n = null\t%action A0() { %f { y(v) } %p E(v) y(v) %message !(E(v) y(v)) -> \"null dereference of y\" \
 { n(v_1, v_2) = !y(v_1) & n(v_1, v_2) \
-r[n,x](v) = r[n,x](v) & (!r[n,y](v) | (y(v) | \
-(E(v_1) x(v_1) & (v_1 == v | TC (v_1, v) (v_2, v_3) (!y(v_2) & n(v_2, v_3)))))) \
+r[n,x](v) = r[n,x](v) & (!(E(v_1) y(v_1) & r[n,x](v_1)) | (!r[n,y](v) | (y(v) | \
+(E(v_1) x(v_1) & (v_1 == v | TC (v_1, v) (v_2, v_3) (!y(v_2) & n(v_2, v_3))))))) \
 r[n,y](v) = y(v) } } %% S0 A0() Exit
 if (x == null) { x = y } y = null\t%action A0() { %f { x(v) } %p !(E(v) x(v)) } \
 %action A1() { %f { x(v) } %p !!(E(v) x(v)) } \

@@ -80,8 +80,9 @@ fn still_other(alloc: Global, source: &Source, x: VarId, r: Reach) -> Result<For
     requires variable { IsVariableOf (source_of source.now) r.variable.0 }
     requires cell { IsVariableOf (source_of source.now) x.0 }
     ensures { IfOk result (λ g. form_of g ≡ FAnd (reaches (source_of source.now) r.field.0 r.variable.0 0)
+        (FOr (FNot (reaches_cell (source_of source.now) r.field.0 r.variable.0 x.0))
         (FOr (FNot (reaches (source_of source.now) r.field.0 x.0 0)) (FOr (points x.0 0)
-        (reached_around (source_of source.now) x.0 r.field.0 r.variable.0)))) }
+        (reached_around (source_of source.now) x.0 r.field.0 r.variable.0))))) }
 {
     let of_x = Reach {
         field: r.field,
@@ -89,11 +90,9 @@ fn still_other(alloc: Global, source: &Source, x: VarId, r: Reach) -> Result<For
     };
     let apart = negation(alloc, reaching(source, of_x, 0))?;
     let led_around = either(alloc, pointing(x, 0), around(alloc, source, x, r)?)?;
-    both(
-        alloc,
-        reaching(source, r, 0),
-        either(alloc, apart, led_around)?,
-    )
+    let missed = negation(alloc, cell_reached(alloc, source, r, x)?)?;
+    let led = either(alloc, apart, led_around)?;
+    both(alloc, reaching(source, r, 0), either(alloc, missed, led)?)
 }
 
 /// The same, for `x` itself too.

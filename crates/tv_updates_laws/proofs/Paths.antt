@@ -146,6 +146,13 @@ module _ (P X : ℕ → Type 0) (E : ℕ → ℕ → Type 0) (decided : (u : ℕ
     not-by v (suc n) u never t =
         edge-before (Around X E) u t.0 v ((λ x. never (u, x, (suc n, t))), t.1) (not-by v n t.0 never t.2)
 
+    -- where X isn't reached, no path goes by way of it
+    not-through : (v n u : ℕ) → (¬ ((c : ℕ) × X c × PathTo E u c)) → Path E n u v → PathTo (Around X E) u v
+    not-through v zero u never t = (zero, t)
+    not-through v (suc n) u never t =
+        edge-before (Around X E) u t.0 v ((λ x. never (u, x, no-edges E u)), t.1)
+        (not-through v n t.0 (λ s. never (s.0, s.1, edge-before E u t.0 s.0 t.1 s.2)) t.2)
+
     -- X is first come to without leaving it
     first-come : (v n u : ℕ) → X v → Path E n u v → PathTo (Around X E) u v
     first-come v zero u x t = (zero, t)
@@ -155,17 +162,20 @@ module _ (P X : ℕ → Type 0) (E : ℕ → ℕ → Type 0) (decided : (u : ℕ
         (λ other. edge-before (Around X E) u t.0 v (other, t.1) (first-come v n t.0 x t.2))
         (decided u)
 
-    pub reach-around : (v : ℕ)
-        → Reach P (Around X E) v ↔ (Reach P E v × ((¬ Reach X E v) ⊎ X v ⊎ Reach P (Around X E) v))
+    pub reach-around : (v : ℕ) → Reach P (Around X E) v
+        ↔ (Reach P E v × ((¬ ((c : ℕ) × X c × Reach P E c)) ⊎ (¬ Reach X E v) ⊎ X v ⊎ Reach P (Around X E) v))
     reach-around v = (
-      λ t. ((t.0, t.1, along (Around X E) E (around-along X E) t.0 v t.2), inr (inr t)),
+      λ t. ((t.0, t.1, along (Around X E) E (around-along X E) t.0 v t.2), inr (inr (inr t))),
       λ t. go t.0 t.1,
     )
       where
-        go : Reach P E v → (¬ Reach X E v) ⊎ X v ⊎ Reach P (Around X E) v → Reach P (Around X E) v
-        go t (inl never) = (t.0, t.1, not-by v t.2.0 t.0 never t.2.1)
-        go t (inr (inl x)) = (t.0, t.1, first-come v t.2.0 t.0 x t.2.1)
-        go t (inr (inr s)) = s
+        go : Reach P E v → (¬ ((c : ℕ) × X c × Reach P E c)) ⊎ (¬ Reach X E v) ⊎ X v ⊎ Reach P (Around X E) v
+            → Reach P (Around X E) v
+        go t (inl apart) =
+            (t.0, t.1, not-through v t.2.0 t.0 (λ s. apart (s.0, s.1, (t.0, t.1, s.2))) t.2.1)
+        go t (inr (inl never)) = (t.0, t.1, not-by v t.2.0 t.0 never t.2.1)
+        go t (inr (inr (inl x))) = (t.0, t.1, first-come v t.2.0 t.0 x t.2.1)
+        go t (inr (inr (inr s))) = s
 
     -- X is reached either way
     reach-self : (c : ℕ) → X c → Reach P E c → Reach P (Around X E) c

@@ -54,18 +54,23 @@ Still p m x f z v = Reach (Has m z) (Around (Has m x) (Leads p m f)) v
 
 -- the formula for another variable than x
 abbrev still_other : SourceForm → (x f z : ℕ) → Form
-still_other p x f z = FAnd (reaches p f z 0)
-    (FOr (FNot (reaches p f x 0)) (FOr (points x 0) (reached_around p x f z)))
+still_other p x f z = FAnd (reaches p f z 0) (FOr (FNot (reaches_cell p f z x))
+    (FOr (FNot (reaches p f x 0)) (FOr (points x 0) (reached_around p x f z))))
+
+-- z reaches the cell of x
+abbrev pub Comes : SourceForm → Heap → (x f z : ℕ) → Type 0
+Comes p m x f z = (c : ℕ) × Has m x c × Reach (Has m z) (Leads p m f) c
 
 -- what it says
 abbrev Remains : SourceForm → Heap → (x f z v : ℕ) → Type 0
-Remains p m x f z v = Reach (Has m z) (Leads p m f) v × ((¬ Reach (Has m x) (Leads p m f) v) ⊎ Has m x v ⊎ Still
-    p m x f z v)
+Remains p m x f z v = Reach (Has m z) (Leads p m f) v
+    × ((¬ Comes p m x f z) ⊎ (¬ Reach (Has m x) (Leads p m f) v) ⊎ Has m x v ⊎ Still p m x f z v)
 
-either-way : {A B X R S : Type 0} → (B → A) → (R → S) → (¬ A) ⊎ X ⊎ R → (¬ B) ⊎ X ⊎ S
-either-way back on (inl n) = inl (λ b. n (back b))
-either-way back on (inr (inl x)) = inr (inl x)
-either-way back on (inr (inr r)) = inr (inr (on r))
+either-way : {C D A B X R S : Type 0} → (D → C) → (B → A) → (R → S) → (¬ C) ⊎ (¬ A) ⊎ X ⊎ R → (¬ D) ⊎ (¬ B) ⊎ X ⊎ S
+either-way comes back on (inl n) = inl (λ d. n (comes d))
+either-way comes back on (inr (inl n)) = inr (inl (λ b. n (back b)))
+either-way comes back on (inr (inr (inl x))) = inr (inr (inl x))
+either-way comes back on (inr (inr (inr r))) = inr (inr (inr (on r)))
 
 module _ (p : SourceForm) (m : Heap) (is : IsFaithful p m) (picked : Assignment) where
   around-truly : (x f z v : ℕ) → Truth m (put picked 0 v) (reached_around p x f z) ↔ Still p m x f z v
@@ -88,15 +93,26 @@ module _ (p : SourceForm) (m : Heap) (is : IsFaithful p m) (picked : Assignment)
     ),
   )
 
+  -- what `reaches_cell` says
+  pub cell-truly : (f z x : ℕ) → IsVariableOf p z → IsFieldOf p f → (a : Assignment)
+      → Truth m a (reaches_cell p f z x) ↔ Comes p m x f z
+  cell-truly f z x z_declared declared a =
+      let from_z = λ (w : ℕ). is.reached f z w declared z_declared
+      in (
+        λ t. (t.0, t.2.0, (from_z t.0).0 t.2.1),
+        λ t. (t.0, is.has_individual x t.0 t.1, (t.1, (from_z t.0).1 t.2)),
+      )
+
   other-truly : (x f z v : ℕ) → IsVariableOf p x → IsVariableOf p z → IsFieldOf p f
       → Truth m (put picked 0 v) (still_other p x f z) ↔ Remains p m x f z v
   other-truly x f z v x_declared z_declared declared =
       let from_z = is.reached f z v declared z_declared
       in let from_x = is.reached f x v declared x_declared
       in let around = around-truly x f z v
+      in let cell = cell-truly f z x z_declared declared (put picked 0 v)
       in (
-        λ t. (from_z.0 t.0, either-way from_x.1 around.0 t.1),
-        λ t. (from_z.1 t.0, either-way from_x.0 around.1 t.1),
+        λ t. (from_z.0 t.0, either-way cell.1 from_x.1 around.0 t.1),
+        λ t. (from_z.1 t.0, either-way cell.0 from_x.0 around.1 t.1),
       )
 
   -- what `still_reached` says
@@ -133,16 +149,6 @@ module _ (p : SourceForm) (m : Heap) (is : IsFaithful p m) (picked : Assignment)
               ⊎_elim (λ n. inl n)
                   (λ s. inr (s.0, (is.leads_between f s.0 v s.2).0, ((from_y s.0).1 s.1, s.2))) t.1,
             ),
-      )
-
-  -- what `reaches_cell` says
-  pub cell-truly : (f z x : ℕ) → IsVariableOf p z → IsFieldOf p f → (a : Assignment)
-      → Truth m a (reaches_cell p f z x) ↔ ((c : ℕ) × Has m x c × Reach (Has m z) (Leads p m f) c)
-  cell-truly f z x z_declared declared a =
-      let from_z = λ (w : ℕ). is.reached f z w declared z_declared
-      in (
-        λ t. (t.0, t.2.0, (from_z t.0).0 t.2.1),
-        λ t. (t.0, is.has_individual x t.0 t.1, (t.1, (from_z t.0).1 t.2)),
       )
 
 -- ---- what is said

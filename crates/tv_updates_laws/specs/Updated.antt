@@ -31,18 +31,19 @@ abbrev pub reached_around : SourceForm → (x f z : ℕ) → Form
 reached_around p x f z = FExists 1 (FAnd (points z 1)
     (FOr (FSame 1 0) (FClosure 1 0 2 3 (FAnd (FNot (points x 2)) (leads p f 2 3)))))
 
--- The same by what is reached: x itself reaches its own cell so and no other; z still reaches what it has
--- reached, where x doesn't reach it, or where it is the cell of x, or where a walk leads around this.
--- r[f,z](v) & (!r[f,x](v) | x(v) | ..)
-abbrev pub still_reached : SourceForm → (x f z : ℕ) → Form
-still_reached p x f z =
-    if z == x then points x 0
-    else FAnd (reaches p f z 0)
-    (FOr (FNot (reaches p f x 0)) (FOr (points x 0) (reached_around p x f z)))
-
 -- z reaches the cell of x: E(v_1) x(v_1) & r[f,z](v_1)
 abbrev pub reaches_cell : SourceForm → (f z x : ℕ) → Form
 reaches_cell p f z x = FExists 1 (FAnd (points x 1) (reaches p f z 1))
+
+-- The same by what is reached: x itself reaches its own cell so and no other; z still reaches what it has
+-- reached, where it doesn't reach the cell of x, or x doesn't reach this, or this is the cell of x, or a walk
+-- leads around that.
+-- r[f,z](v) & (!(E(v_1) x(v_1) & r[f,z](v_1)) | !r[f,x](v) | x(v) | ..)
+abbrev pub still_reached : SourceForm → (x f z : ℕ) → Form
+still_reached p x f z =
+    if z == x then points x 0
+    else FAnd (reaches p f z 0) (FOr (FNot (reaches_cell p f z x))
+    (FOr (FNot (reaches p f x 0)) (FOr (points x 0) (reached_around p x f z))))
 
 -- ---- updates
 
