@@ -13,7 +13,8 @@ use Rattle.tv_model.specs.Truth.{IsWalk}
 use Rattle.tv_delta_laws.specs.Deltas.{is_flagged}
 use Rattle.tv_delta_laws.specs.Differences.{IsChanged, DefinedBy, IsAffected, AreAffected}
 use Rattle.tv_delta_laws.proofs.Differenced.{core-kind}
-use Rattle.tv_delta.specs.Flags.{rests, rests_pred, rests_at, changed_from, MentionsAt, RestsOld, IsMarking, AreMarked}
+use Rattle.tv_delta.specs.Flags.{rests, rests_pred, rests_at, changed_from, MentionsAt, RestsOld, IsMarking}
+use Rattle.tv_delta.specs.Flags.{AreMarked}
 use Rattle.tv_delta.specs.Flags.{AreMentionLists, tells}
 use Rattle.tv_delta.proofs.Touches.{Touched, touched, touching}
 use Rattle.tv_delta.proofs.UseLists.{lists_tell}
@@ -82,7 +83,8 @@ marking_more preds old new q is below on = record {
 pub marking_none : (preds : List PredForm) (old : List Bool) → IsMarking preds old old
 marking_none preds old = record { one_each = refl; sound = λ q on. inl on; kept = λ q on. on }
 
-pub marking_by : (preds : List PredForm) (lists : List (List ℕ)) (old new : List Bool) (q : ℕ) → AreMentionLists preds lists
+pub marking_by : (preds : List PredForm) (lists : List (List ℕ)) (old new : List Bool) (q : ℕ)
+    → AreMentionLists preds lists
     → IsMarking preds old new → q < length new → tells new (slice_get lists q) ≡ true
     → IsMarking preds old (set new q true)
 marking_by preds lists old new q are is below on =
@@ -139,7 +141,8 @@ flag-changed k (d ∷ preds) updates (suc i) is =
     in flag-changed (k + 1) preds updates i
     (is.0, is.1, is.2, ap (λ n. is_some (update_for n updates)) same ∙ is.3)
 
-is-changed : (p : ProgramForm) (action : ActionForm) (q : ℕ) → ChangedAt 0 q p.preds action.updates → IsChanged p action q
+is-changed : (p : ProgramForm) (action : ActionForm) (q : ℕ) → ChangedAt 0 q p.preds action.updates
+    → IsChanged p action q
 is-changed p action q at =
     let number : 0 + q ≡ q = omega arith
     in let update : (w : UpdateForm) × (update_for (0 + q) action.updates ≡ Some w)
@@ -152,7 +155,8 @@ is-changed p action q at =
       updated = ap (λ n. update_for n action.updates) (sym number) ∙ update.1;
     }
 
-changed-at : (p : ProgramForm) (action : ActionForm) (q : ℕ) → IsChanged p action q → ChangedAt 0 q p.preds action.updates
+changed-at : (p : ProgramForm) (action : ActionForm) (q : ℕ) → IsChanged p action q
+    → ChangedAt 0 q p.preds action.updates
 changed-at p action q is =
     let number : 0 + q ≡ q = omega arith
     in (

@@ -1,5 +1,6 @@
 -- Lists of what definitions mention.
-use Rattle.std.proofs.Common.{ℕ, ◌≡◌, ◌∙◌, ◌<◌, ◌+◌, Bool, true, false, List, [], ◌∷◌, ◌++◌, get_or, take, length}
+use Rattle.std.proofs.Common.{ℕ, ◌≡◌, ◌∙◌, ◌<◌, ◌+◌, Bool, true, false, List, [], ◌∷◌, ◌++◌, get_or, take}
+use Rattle.std.proofs.Common.{length}
 use Rattle.std.proofs.Common.{map, refl, sym, ap, subst, suc, zero}
 use Rattle.std.specs.Prelude.{◌||◌, slice_get}
 use Rattle.std.specs.List.{list_any}
@@ -62,7 +63,8 @@ lists_more preds out us i pred list lt at so_far one pushed =
     (zip_push ListTells (map pred_of (take i preds)) out (pred_of pred) list so_far one))
 
 -- the lists tell what rests on flagged predicates
-pub lists_tell : (preds : List PredForm) (lists : List (List ℕ)) → AreMentionLists preds lists → (flags : List Bool) (q : ℕ)
+pub lists_tell : (preds : List PredForm) (lists : List (List ℕ)) → AreMentionLists preds lists
+    → (flags : List Bool) (q : ℕ)
     → rests_at flags preds q ≡ tells flags (slice_get lists q)
 lists_tell [] [] are flags q = refl
 lists_tell [] (list ∷ lists) are flags q = absurd are

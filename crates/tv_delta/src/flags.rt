@@ -1,9 +1,11 @@
 //! Which predicates an action affects: those that it changes, and those whose definitions rest on such.
 
-ghost use Rattle.std.specs.Prelude.{ℕ, Bool, List, ◌≡◌, ◌+◌, ◌≤◌, ◌<◌, ◌++◌, Some, true, false, length, map, is_some};
+ghost use Rattle.std.specs.Prelude.{ℕ, Bool, List, ◌≡◌, ◌+◌, ◌≤◌, ◌<◌, ◌++◌, Some, true, false, length, map};
+ghost use Rattle.std.specs.Prelude.{is_some};
 ghost use Rattle.std.specs.Prelude.{slice_get, option_map, option_copied, IfSome, IfNone, IfOk, OnOk};
 ghost use Rattle.tv_model.specs.Form.{form_of};
-ghost use Rattle.tv_model.specs.Program.{PredForm, program_of, action_of, pred_of, kind_of, update_of, is_core_kind};
+ghost use Rattle.tv_model.specs.Program.{PredForm, program_of, action_of, pred_of, kind_of, update_of};
+ghost use Rattle.tv_model.specs.Program.{is_core_kind};
 ghost use Rattle.tv_model.specs.Step.{update_for};
 ghost use Rattle.tv_delta_laws.specs.Deltas.{is_flagged, touches};
 ghost use Rattle.tv_delta_laws.specs.Differences.{AreAffected};

@@ -24,7 +24,8 @@ pub struct Uses {
 #[tactic(auto, using(crate::proofs::UseLists::touches_any))]
 fn mentioned(alloc: Global, kind: &Kind) -> Result<Vec<u32>, AllocError>
     ensures { IfOk result
-        (λ list. (flags : List Bool) → rests flags (kind_of kind.now) ≡ list_any (is_flagged flags) list.items) }
+        (λ list. (flags : List Bool)
+        → rests flags (kind_of kind.now) ≡ list_any (is_flagged flags) list.items) }
 {
     let mut list = Vec::new(alloc);
     match kind {

@@ -1,5 +1,6 @@
 -- Tests of each element in turn.
-use Rattle.std.proofs.Common.{ℕ, ◌≡◌, ◌<◌, ◌+◌, List, [], ◌∷◌, ◌++◌, length, map, take, get_or, All, Contains, sym, subst}
+use Rattle.std.proofs.Common.{ℕ, ◌≡◌, ◌<◌, ◌+◌, List, [], ◌∷◌, ◌++◌, length, map, take, get_or, All, Contains}
+use Rattle.std.proofs.Common.{sym, subst}
 use Rattle.std.proofs.lemmas.List.Elements.{All-contains, All-push}
 use Rattle.std.proofs.lemmas.List.Elements.{Contains-get_or}
 use Rattle.tv_lemmas.proofs.Lists.{map_next}

@@ -10,7 +10,8 @@ use Rattle.std.specs.List.{range_with_len}
 use Rattle.std.specs.Cmp.{nat_eq_equiv}
 use Rattle.std.proofs.lemmas.Bool.Decides.{Decides-eqb}
 use Rattle.std.proofs.lemmas.List.{append-nil, length-map, take_more}
-use Rattle.std.proofs.lemmas.List.Elements.{All-contains, All-push, All-weaker, Contains-append_left, Contains-push}
+use Rattle.std.proofs.lemmas.List.Elements.{All-contains, All-push, All-weaker, Contains-append_left}
+use Rattle.std.proofs.lemmas.List.Elements.{Contains-push}
 use Rattle.std.proofs.lemmas.List.FromFn.{length-range_with_len}
 use Rattle.std.proofs.lemmas.Map.Made.{length-le_from_is_member, IsDistinct-from_AllPairs, is_member-Decides}
 use Rattle.std.proofs.lemmas.Option.{same_Some, slice_get-get_or, slice_get-map}
@@ -56,7 +57,8 @@ use Rattle.tv_witness_laws.specs.Laws.{MovesLeadEverywhere, StepsAreNamed}
 use Rattle.tv_witness_laws.specs.Steps.{IsNamedStep, LeadsToCopy}
 use Rattle.tv_witness_laws.specs.Witness.{HasFewCells}
 use Rattle.tv_heap_steps.specs.Settled.{AreSettled}
-use Rattle.tv_heap_steps.specs.Steps.{AreAllSteps, IsAccepted, IsMoveBy, IsPassed, IsReadyToWalk, IsSmallHeap}
+use Rattle.tv_heap_steps.specs.Steps.{AreAllSteps, IsAcceptedMove, IsMoveBy, IsPassed, IsReadyToWalk}
+use Rattle.tv_heap_steps.specs.Steps.{IsSmallHeap}
 use Rattle.tv_heap_steps.specs.Steps.{IsSmallStep, IsStepBy, IsUnbrokenBy, LeadsTo, program_in, some_of}
 use Rattle.tv_heap_steps.specs.declared.along.Led.{Led}
 use Rattle.tv_heap_steps.specs.declared.walker.Walker.{Walker}
@@ -110,7 +112,8 @@ module _ (walker : Walker) (edge : ℕ) (s : StructureForm) (small : IsSmallHeap
     leads =
         everywhere p valid t.action move.picks move.values s x.heap made.moves.kept made.moves.next made.moves.unmarked
         walker.mode named (named-so t)
-        (λ q free. absurd (none_free t.action (subst (λ (a : ActionForm). AreSettled a.updates) (sym (same_action t)) to.settled)
+        (λ q free. absurd (none_free t.action (subst (λ (a : ActionForm). AreSettled a.updates)
+        (sym (same_action t)) to.settled)
         q free))
 
     of_program : IsOfProgram p x.heap
@@ -141,7 +144,7 @@ module _ (walker : Walker) (edge : ℕ) (s : StructureForm) (small : IsSmallHeap
         (renamed (kept_individual made.moves.kept) (heap_of x.heap))) is leads.given
         in absurd (first.0.2 (all q.0 first.0.0 first.0.1))
 
-    pub accepted_then : HasFewCells walker.cells named → IsAccepted p walker.mode walker.cells x
+    pub accepted_then : HasFewCells walker.cells named → IsAcceptedMove p walker.mode walker.cells x
     accepted_then cells = record {
       small = few cells;
       unbroken = unbroken walker.mode refl x.broken refl;
@@ -164,7 +167,7 @@ module _ (walker : Walker) (edge : ℕ) (s : StructureForm) (small : IsSmallHeap
 
 pub accepted_so : (p : ProgramForm) (mode : Mode) (cells : ℕ) (x : Moved) → x.heap.size ≤ cells
     → IsUnbrokenBy mode x.broken → (u : Option ℕ) → IsFirstUnmet (heap_of x.heap) (judged_rules p) u → (b : Bool)
-    → is_some u ≡ not b → IsTrue b ↔ IsAccepted p mode cells x
+    → is_some u ≡ not b → IsTrue b ↔ IsAcceptedMove p mode cells x
 accepted_so p mode cells x small unbroken None unmet true none =
     (λ t_. record { small = small; unbroken = unbroken; rules = unmet }, λ a. refl)
 accepted_so p mode cells x small unbroken None unmet false none = absurd (false≢true none)
@@ -232,7 +235,7 @@ module _ (walker : Walker) (room : ScratchForm) (ready : IsReadyToWalk walker ro
   module _ (everywhere : MovesLeadEverywhere) (x : Moved) (made : IsMoved (program_in walker) move at x) where
     -- nothing speaks against it
     pub step_made : (led : Led) → led ≡ record { step = move; moved = x }
-        → IsAccepted (program_in walker) walker.mode walker.cells x → IsStepBy walker edge s chosen (Some led)
+        → IsAcceptedMove (program_in walker) walker.mode walker.cells x → IsStepBy walker edge s chosen (Some led)
     step_made led is accepted =
         subst (λ (y : Led). IsStepBy walker edge s chosen (Some y)) (sym is) (
           record { taken = taken; its_edge = its_edge; is_edge = by.edge_is; moved = made; accepted = accepted },
@@ -240,7 +243,8 @@ module _ (walker : Walker) (room : ScratchForm) (ready : IsReadyToWalk walker ro
         )
 
     -- something does
-    pub step_dropped : (IsAccepted (program_in walker) walker.mode walker.cells x → ⊥) → IsStepBy walker edge s chosen None
+    pub step_dropped : (IsAcceptedMove (program_in walker) walker.mode walker.cells x → ⊥)
+        → IsStepBy walker edge s chosen None
     step_dropped not named to few =
         not (accepted_then walker edge s small chosen move by named to ready.valid everywhere taken.from x made few)
 
@@ -274,7 +278,8 @@ module _ (walker : Walker) (edge : ℕ) (s : StructureForm) where
       (λ named to few. (led, Contains-push leds led, step.1 named to))
 
   -- none was
-  pub passed_none : (leds : List Led) (lists : List (List ℕ)) (chosen : List ℕ) → All (IsPassed walker edge s leds) lists
+  pub passed_none : (leds : List Led) (lists : List (List ℕ)) (chosen : List ℕ)
+      → All (IsPassed walker edge s leds) lists
       → IsStepBy walker edge s chosen None → All (IsPassed walker edge s leds) (lists ++ chosen ∷ [])
   passed_none leds lists chosen all step =
       All-push (IsPassed walker edge s leds) lists chosen all (λ named to few. absurd (step named to few))
@@ -310,16 +315,21 @@ pub all_steps : (walker : Walker) (room : ScratchForm) → IsReadyToWalk walker 
     → slice_get (program_in walker).actions taken.action ≡ Some action
     → (lists : List (List ℕ)) → lists ≡ tuples_of (range_with_len 0 s.size) (length action.picks) → (leds : List Led)
     → All (IsPassed walker edge s leds) lists → AreAllSteps walker edge s leds
-all_steps walker room ready edge s small named taken action its_edge its_action lists are leds all other is new step few =
+all_steps walker room ready edge s small named taken action its_edge its_action lists are leds all other is new
+    step few =
     let p : ProgramForm = program_in walker
     in let settled : AreSettled action.updates
     = All-contains (λ (a : ActionForm). AreSettled a.updates) p.actions action ready.settled
     (slice_get-contains p.actions taken.action action its_action)
-    in let over : IsOfProgram p s = (small.over ∙ sym (arities-same walker.ordered.program.now.vocab.preds), small.unmarked)
+    in let over : IsOfProgram p s = (
+      small.over ∙ sym (arities-same walker.ordered.program.now.vocab.preds),
+      small.unmarked,
+    )
     in let same : other ≡ taken = same_Some other taken (sym is ∙ its_edge)
     in let has = named p ready.valid s over walker.mode other new step
     in let its : has.action ≡ action
-    = same_Some has.action action (sym has.its_action ∙ ap (λ (e : Edge). slice_get p.actions e.action) same ∙ its_action)
+    = same_Some has.action action (sym has.its_action ∙ ap (λ (e : Edge). slice_get p.actions e.action) same
+    ∙ its_action)
     in let own : IsNamedStep p walker.mode action has.chosen s has.named
     = subst (λ a. IsNamedStep p walker.mode a has.chosen s has.named) its has.is
     in let there : Contains lists has.chosen
@@ -327,6 +337,13 @@ all_steps walker room ready edge s small named taken action its_edge its_action 
     in let cells : length has.named.individuals ≤ length new.individuals
     = copies_have_as_many p has.named new own.fair.step.new_heap has.copy
     in let found = All-contains (IsPassed walker edge s leds) lists has.chosen all there has.named
-    (record { taken = taken; action = action; its_edge = its_edge; its_action = its_action; settled = settled; is = own })
+    (record {
+      taken = taken;
+      action = action;
+      its_edge = its_edge;
+      its_action = its_action;
+      settled = settled;
+      is = own;
+    })
     (omega (arith, cells, few))
     in (found.0, found.1, copies-onward (heap_of found.0.moved.heap) has.named new found.2 has.copy)

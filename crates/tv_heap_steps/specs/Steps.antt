@@ -55,7 +55,7 @@ IsUnbrokenBy Given broken = broken ≡ None
 IsUnbrokenBy Recompute broken = ⊤
 
 -- nothing speaks against where the step leads
-pub record IsAccepted (p : ProgramForm) (mode : Mode) (cells : ℕ) (x : Moved) : Type 0 where
+pub record IsAcceptedMove (p : ProgramForm) (mode : Mode) (cells : ℕ) (x : Moved) : Type 0 where
   pub small : x.heap.size ≤ cells
   pub unbroken : IsUnbrokenBy mode x.broken
   pub rules : All (MeetsRule (heap_of x.heap)) (judged_rules p)
@@ -66,7 +66,7 @@ pub record IsSmallStep (walker : Walker) (edge : ℕ) (s : StructureForm) (led :
   pub its_edge : slice_get (program_in walker).edges edge ≡ Some taken
   pub is_edge : led.step.edge ≡ edge
   pub moved : IsMoved (program_in walker) led.step (record { node = taken.from; heap = s }) led.moved
-  pub accepted : IsAccepted (program_in walker) walker.mode walker.cells led.moved
+  pub accepted : IsAcceptedMove (program_in walker) walker.mode walker.cells led.moved
 
 -- one of the steps leads to a heap of which this one is a copy
 abbrev pub HasLed : List Led → Heap → Type 0

@@ -1,7 +1,7 @@
 //! Which steps are fair, and lead to heaps of few cells.
 
 ghost use Rattle.std.specs.Prelude.{◌≡◌, ◌↔◌, IfOk, IsTrue};
-ghost use Rattle.tv_heap_steps.specs.Steps.{IsAccepted, IsReadyToWalk, IsUnbrokenBy, program_in};
+ghost use Rattle.tv_heap_steps.specs.Steps.{IsAcceptedMove, IsReadyToWalk, IsUnbrokenBy, program_in};
 ghost use Rattle.tv_replay_judge.specs.Ready.{IsReadyToEvaluate};
 
 use crate::walker::Walker;
@@ -31,7 +31,7 @@ pub(crate) fn is_accepted(
     requires ready { IsReadyToWalk walker.now scratch.old }
     requires heap { IsReadyToEvaluate (program_in walker.now) moved.now.heap scratch.old }
     ensures accepted { IfOk result (λ yes. IsTrue yes
-        ↔ IsAccepted (program_in walker.now) walker.now.mode walker.now.cells moved.now) }
+        ↔ IsAcceptedMove (program_in walker.now) walker.now.mode walker.now.cells moved.now) }
     ensures scratch { scratch.new ≡ scratch.old }
 {
     if moved.heap.size() > walker.cells {

@@ -7,5 +7,3 @@ mod compiled;
 mod limits;
 #[cfg(test)]
 mod texts;
-#[cfg(test)]
-mod updated;

@@ -1,5 +1,6 @@
 -- What is written of moves is read as these moves.
-use Rattle.std.proofs.Common.{ℕ, suc, ◌≡◌, ◌<◌, ◌^◌, ◌⊎◌, inl, inr, List, [], ◌∷◌, ◌++◌, length, map, Option, Some, None}
+use Rattle.std.proofs.Common.{ℕ, suc, ◌≡◌, ◌<◌, ◌^◌, ◌⊎◌, inl, inr, List, [], ◌∷◌, ◌++◌, length, map, Option}
+use Rattle.std.proofs.Common.{Some, None}
 use Rattle.std.proofs.Common.{Ok, true, false, refl, sym, ap, subst, ◌∙◌, append_assoc, arith}
 use Rattle.std.specs.Prelude.{All, IfSome, codes, decimal}
 use Rattle.std.specs.List.{AllByRecursion}
@@ -32,7 +33,7 @@ use Rattle.tv_tvs.proofs.Lexing.{Clear, mark, word, word_first, space_first, fee
 use Rattle.tv_tvs.proofs.RoundTrip as structures
 use Rattle.tv_tvs.proofs.Valid.{valid_fits}
 use Rattle.tv_trace_text.specs.Laws.{IsWrittenMove, TracesAreReadAgain}
-use Rattle.tv_trace_text.specs.Text.{picks_text, step_text, trace_text, values_text}
+use Rattle.tv_trace_text.specs.Text.{picks_text, move_text, trace_text, all_values_text}
 
 -- ---- parentheses
 
@@ -84,7 +85,7 @@ unmarked_same s e =
 
 record Valued (vocab : Vocab) (values : Option StructureForm) (behind : List ℕ) (ts : List SpecToken) : Type 0 where
   tokens : List SpecToken
-  lexes : Lexes (values_text vocab values ++ behind) tokens
+  lexes : Lexes (all_values_text vocab values ++ behind) tokens
   tree : Option StructTree
   are : AreValues tokens tree ts
   meant : AreMeant vocab tree values
@@ -95,7 +96,8 @@ structure_first : (vocab : Vocab) → IsWritable vocab → (s : StructureForm) �
     → (us : List SpecToken) × Lexes (canonical_text vocab s ++ behind) us × MeansStruct vocab us ts (Ok (unmarked s))
 structure_first vocab fits s is behind ts l =
     let read = lexes_read behind ts l
-    in let again = (structures.read_again vocab s fits.vocabulary fits.spelled is.structure is.over).in_front behind read.0
+    in let again = (structures.read_again vocab s fits.vocabulary fits.spelled is.structure is.over).in_front
+    behind read.0
     read.1
     in let us : List SpecToken = spec_tokens (canonical_text vocab s ++ behind) again.0
     in (
@@ -173,7 +175,8 @@ picked (u ∷ us) short behind ts none l =
     in let text_1 : List ℕ = comma_text (map decimal (u ∷ us)) ++ 41 ∷ 10 ∷ behind
     in let numbers : Lexes text_1 ts_1
     = comma_lexes decimal (λ n. spell_word (decimal n)) IsShort
-    (λ n small more vs is k. word_first (decimal n) more vs (number_word n small) is k) (u ∷ us) short (41 ∷ 10 ∷ behind)
+    (λ n small more vs is k. word_first (decimal n) more vs (number_word n small) is k) (u ∷ us) short
+    (41 ∷ 10 ∷ behind)
     ts_2 (refl, refl) close
     in let whole = space_first (40 ∷ text_1) (mark (codes "(") ∷ ts_1) (open_first text_1 ts_1 numbers)
     in let text : picks_text (u ∷ us) ++ 10 ∷ behind ≡ 32 ∷ 40 ∷ text_1
@@ -224,9 +227,11 @@ traced program fits (move ∷ moves) all =
     in let rest : List ℕ = trace_text program.vocab moves
     in let values = valued program.vocab fits move.values (values_read program move is) rest later.tokens later.starts
     later.lexes
-    in let behind : List ℕ = values_text program.vocab move.values ++ rest
-    in let picks = picked move.picks (by_recursion move.picks is.picks) behind values.tokens values.none_picked values.lexes
-    in let number : Lexes (decimal move.edge ++ (picks_text move.picks ++ 10 ∷ behind)) (word (decimal move.edge) ∷ picks.tokens)
+    in let behind : List ℕ = all_values_text program.vocab move.values ++ rest
+    in let picks = picked move.picks (by_recursion move.picks is.picks) behind values.tokens values.none_picked
+    values.lexes
+    in let number : Lexes (decimal move.edge ++ (picks_text move.picks ++ 10 ∷ behind))
+    (word (decimal move.edge) ∷ picks.tokens)
     = word_first (decimal move.edge) (picks_text move.picks ++ 10 ∷ behind) picks.tokens
     (number_word move.edge is.edge) picks.clear picks.lexes
     in let tokens : List SpecToken = word (codes "step") ∷ word (decimal move.edge) ∷ picks.tokens
@@ -235,7 +240,8 @@ traced program fits (move ∷ moves) all =
     in record {
       tokens = tokens;
       lexes = subst (λ t. Lexes t tokens)
-          (sym (step_whole (decimal move.edge) (picks_text move.picks) (values_text program.vocab move.values) rest)) whole;
+          (sym (step_whole (decimal move.edge) (picks_text move.picks)
+          (all_values_text program.vocab move.values) rest)) whole;
       steps = record { edge = move.edge; picks = move.picks; values = values.tree } ∷ later.steps;
       are = (
         later.tokens,

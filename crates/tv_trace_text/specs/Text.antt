@@ -11,16 +11,16 @@ picks_text [] = []
 picks_text (u ∷ us) = codes " (" ++ (comma_text (map decimal (u ∷ us)) ++ codes ")")
 
 -- `free` and the structure, where there is one
-abbrev pub values_text : Vocab → Option StructureForm → List ℕ
-values_text vocab None = []
-values_text vocab (Some s) = codes "free\n" ++ canonical_text vocab s
+abbrev pub all_values_text : Vocab → Option StructureForm → List ℕ
+all_values_text vocab None = []
+all_values_text vocab (Some s) = codes "free\n" ++ canonical_text vocab s
 
 -- `step NUMBER`, the individuals that are picked, and the values that are given
-abbrev pub step_text : Vocab → Move → List ℕ
-step_text vocab move =
+abbrev pub move_text : Vocab → Move → List ℕ
+move_text vocab move =
     codes "step " ++ (decimal move.edge
-    ++ (picks_text move.picks ++ (codes "\n" ++ values_text vocab move.values)))
+    ++ (picks_text move.picks ++ (codes "\n" ++ all_values_text vocab move.values)))
 
 abbrev pub trace_text : Vocab → List Move → List ℕ
 trace_text vocab [] = []
-trace_text vocab (move ∷ moves) = step_text vocab move ++ trace_text vocab moves
+trace_text vocab (move ∷ moves) = move_text vocab move ++ trace_text vocab moves

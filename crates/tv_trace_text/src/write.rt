@@ -2,7 +2,7 @@
 
 ghost use Rattle.std.specs.Prelude.{◌≡◌, ◌≤◌, ◌++◌, All, IfOk, IfSome, OnOk, length};
 ghost use Rattle.tv_structure_form.specs.StructureForm.{IsOver};
-ghost use Rattle.tv_trace_text.specs.Text.{picks_text, step_text, trace_text, values_text};
+ghost use Rattle.tv_trace_text.specs.Text.{picks_text, move_text, trace_text, all_values_text};
 
 use std::alloc::{AllocError, Global};
 use tv_model::Vocab;
@@ -32,7 +32,7 @@ fn append_values(
     requires over { IfSome values.now (IsOver vocab.now) }
     requires arities { All (λ pred. pred.arity ≤ 2) vocab.now.preds }
     requires count { length vocab.now.preds ≤ 512 }
-    ensures { OnOk result (out.new.items ≡ out.old.items ++ values_text vocab.now values.now) }
+    ensures { OnOk result (out.new.items ≡ out.old.items ++ all_values_text vocab.now values.now) }
 {
     match values {
         None => Ok(()),
@@ -54,7 +54,7 @@ pub fn append_step(
     requires over { IfSome step.now.values (IsOver vocab.now) }
     requires arities { All (λ pred. pred.arity ≤ 2) vocab.now.preds }
     requires count { length vocab.now.preds ≤ 512 }
-    ensures { OnOk result (out.new.items ≡ out.old.items ++ step_text vocab.now step.now) }
+    ensures { OnOk result (out.new.items ≡ out.old.items ++ move_text vocab.now step.now) }
 {
     out.extend_from_slice(b"step ")?;
     write_number(out, u64::from(step.edge))?;

@@ -100,8 +100,9 @@ fn cause_among(
     None
 }
 
-/// A structure that coerce, and the focus of the edge's action, leave at hand of the trail's end, at which the
-/// condition of the action's message of this number has the value; there is one, since the message has it.
+/// A structure that coerce, and the focus of the edge's action, leave at hand of the trail's end, at which
+/// the condition of the action's message of this number has the value; there is one, since the message has
+/// it.
 pub(crate) fn cause_of(
     stepper: &mut Stepper,
     program: &Program,

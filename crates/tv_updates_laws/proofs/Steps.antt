@@ -98,7 +98,8 @@ rules-met p h is = All-from_contains (MeetsRule h) (reach_rules p) (λ rule at. 
         (rule-met p h is of_f.0 of_x.0 (omega (arith, range-below 0 (length p.fields) of_f.0 of_f.1))
         (omega (arith, range-below 0 (length p.variables) of_x.0 of_x.1)))
 
-meets-there : (p : SourceForm) (h : Heap) → IsFaithful p h → MeetsProgram (compiled p) h → MeetsProgram (updated_program p) h
+meets-there : (p : SourceForm) (h : Heap) → IsFaithful p h → MeetsProgram (compiled p) h
+    → MeetsProgram (updated_program p) h
 meets-there p h is meets = record { rules = rules-met p h is; properties = meets.properties }
 
 meets-back : (p : SourceForm) (h : Heap) → MeetsProgram (updated_program p) h → MeetsProgram (compiled p) h
@@ -280,7 +281,8 @@ pub fair-there : (p : SourceForm) → IsSource p → (mode : Mode) (edge : Edge)
     → FairStep (compiled p) mode edge old new → FairStep (updated_program p) mode edge old new
 fair-there p valid mode edge old new concrete fair = by (pair-of p valid edge.action)
   where
-    by : ((slice_get (compiled p).actions edge.action ≡ None) × (slice_get (updated_program p).actions edge.action ≡ None))
+    by : ((slice_get (compiled p).actions edge.action ≡ None)
+        × (slice_get (updated_program p).actions edge.action ≡ None))
         ⊎ HasPair p (all_assigned p.body) (compiled p).actions edge.action
         → FairStep (updated_program p) mode edge old new
     by (inl none) = absurd (no-action (slice_get (compiled p).actions edge.action) fair.action none.0 fair.its_action)
@@ -302,10 +304,12 @@ pub fair-back : (p : SourceForm) → IsSource p → (mode : Mode) (edge : Edge) 
     → FairStep (updated_program p) mode edge old new → FairStep (compiled p) mode edge old new
 fair-back p valid mode edge old new fair = by (pair-of p valid edge.action)
   where
-    by : ((slice_get (compiled p).actions edge.action ≡ None) × (slice_get (updated_program p).actions edge.action ≡ None))
+    by : ((slice_get (compiled p).actions edge.action ≡ None)
+        × (slice_get (updated_program p).actions edge.action ≡ None))
         ⊎ HasPair p (all_assigned p.body) (compiled p).actions edge.action
         → FairStep (compiled p) mode edge old new
-    by (inl none) = absurd (no-action (slice_get (updated_program p).actions edge.action) fair.action none.1 fair.its_action)
+    by (inl none) = absurd (no-action (slice_get (updated_program p).actions edge.action) fair.action none.1
+        fair.its_action)
     by (inr pair) =
         let same : fair.action ≡ with_reaches p pair.assign pair.action
         = same-action fair.action (with_reaches p pair.assign pair.action) (sym fair.its_action ∙ pair.after)

@@ -1,9 +1,9 @@
 //! Shortest trails of small programs.
 //!
 //! The first line of a text has a program. Each other line has what is looked for, which is a value of a
-//! message, behind the number of its edge and its own, or a structure behind its node; initial structures; how
-//! many structures may be met; and the trail, which is the number of its initial structure and those of its
-//! edges, or why there is none.
+//! message, behind the number of its edge and its own, or a structure behind its node; initial structures;
+//! how many structures may be met; and the trail, which is the number of its initial structure and those of
+//! its edges, or why there is none.
 
 ghost use Rattle.std.specs.Prelude.{All};
 ghost use Rattle.tv_model.specs.Program.{program_of};

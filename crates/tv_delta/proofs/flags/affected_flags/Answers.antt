@@ -42,4 +42,5 @@ returns c =
     (changed_from 0 (map pred_of c.as_slice-preds.result.now) (map update_of c.as_slice.result.now))
     c.in_ok-flags.ensures.items c.in_ok-push_changed.ensures)
     (c.mark.ensures (map pred_of c.as_slice-preds.result.now)
-    (subst (λ ds. AreMentionLists (map pred_of ds) c.args.uses.now.lists.items) (sym c.as_slice-preds.ensures) c.requires.uses)))
+    (subst (λ ds. AreMentionLists (map pred_of ds) c.args.uses.now.lists.items) (sym c.as_slice-preds.ensures)
+    c.requires.uses)))

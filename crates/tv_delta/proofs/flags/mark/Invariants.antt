@@ -7,7 +7,8 @@ use Rattle.tv_delta.proofs.flags.mark.Given as goal
 abbrev pub invariant-loop-q : goal.invariant-loop-q
 invariant-loop-q l = record {
   long : length l.uses.lists.items ≡ length l.flags.items;
-  marks : (preds : List PredForm) → AreMentionLists preds l.uses.lists.items → IsMarking preds l.fn.flags.items l.flags.items;
+  marks : (preds : List PredForm) → AreMentionLists preds l.uses.lists.items
+      → IsMarking preds l.fn.flags.items l.flags.items;
 }
 
 abbrev pub decreases-loop-q : goal.decreases-loop-q

@@ -29,4 +29,5 @@ pub returns : goal.returns
 returns c = λ test.
     ap (list_any test) (dedup_is eqb c.sort_unstable.new.self.items c.dedup.new.self.items c.dedup.ensures.filtered)
     ∙ deduped test c.sort_unstable.new.self.items
-    ∙ sym (list_any-IsPermutation test c.args.list.items c.sort_unstable.new.self.items c.sort_unstable.ensures.permutation)
+    ∙ sym (list_any-IsPermutation test c.args.list.items c.sort_unstable.new.self.items
+    c.sort_unstable.ensures.permutation)

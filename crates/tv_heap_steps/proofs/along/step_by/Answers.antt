@@ -36,7 +36,8 @@ returns-in-Ok-clause-step c =
     let walker = c.args.walker.now
     in let taken : Edge = get_or c.as_slice.result.now c.args.edge (record { from = 0; action = 0; to = 0 })
     in let its = edge_is walker c.args.edge c.as_slice.result.now c.as_slice.ensures c.requires.edge
-    in step_dropped walker c.args.scratch.now c.requires.ready c.args.edge c.args.s.now c.requires.heap c.args.chosen.now
+    in step_dropped walker c.args.scratch.now c.requires.ready c.args.edge c.args.s.now c.requires.heap
+    c.args.chosen.now
     c.in_ok-step.step c.in_ok-step.ensures taken its c.moves_lead_everywhere.ensures c.in-Ok.moved
     c.in-Ok.ensures.moved
     (λ is. false≢true (sym c.if-branch.false ∙ c.in_ok-is_accepted-in-Ok.ensures.accepted.1 is))
@@ -48,5 +49,6 @@ returns-in-Err-Stuck-clause-step c =
     in let its = edge_is walker c.args.edge c.as_slice.result.now c.as_slice.ensures c.requires.edge
     in step_stuck walker c.args.scratch.now c.requires.ready c.args.edge c.args.s.now c.requires.heap c.args.chosen.now
     c.in_ok-step.step c.in_ok-step.ensures taken its c.in-Err-Stuck.field-0-0
-    (subst (λ (h : Halt). Halts (program_in walker) c.in_ok-step.step (record { node = taken.from; heap = c.args.s.now }) h)
+    (subst (λ (h : Halt). Halts (program_in walker) c.in_ok-step.step
+    (record { node = taken.from; heap = c.args.s.now }) h)
     c.in-Err-Stuck.field-0-is c.in-Err-Stuck.ensures.halt)

@@ -9,4 +9,5 @@ loop-list-preserved c =
     in c.in_ok-push_each.ensures
     ∙ ap (λ ys. ys ++ each c.as_slice.result.now) c.loop-list.invariant
     ∙ ap (λ (x : List ℕ). flat_map each (take c.loop-list.list-index c.args.lists.now) ++ each x) c.as_slice.ensures
-    ∙ sym (one_part_more each c.args.lists.now c.loop-list.list-index c.list-item.result c.loop-list-test.true c.list-item.is)
+    ∙ sym (one_part_more each c.args.lists.now c.loop-list.list-index c.list-item.result c.loop-list-test.true
+    c.list-item.is)

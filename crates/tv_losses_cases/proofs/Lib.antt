@@ -1,5 +1,0 @@
-mod Blaming
-pub mod Counting
-mod Dropping
-mod Owning
-mod Trying

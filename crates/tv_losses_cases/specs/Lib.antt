@@ -1,4 +1,0 @@
-pub mod Cases
-pub mod Blames
-pub mod Tallies
-pub mod Trying

@@ -1,5 +1,0 @@
-mod Further
-mod Declared
-mod Numbers
-mod Ranges
-mod Stages

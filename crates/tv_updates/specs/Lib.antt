@@ -1,2 +1,0 @@
-pub mod Assigns
-pub mod Meaning
