@@ -60,7 +60,9 @@ export class Explanation {
   }
   step(line) {
     if (!this.steps.length && line.skips("no message")) return line.isAtEnd || line.fault("the end of the line");
-    const isFirst = !this.steps.length, start = line.at;
+    const isFirst = !this.steps.length, start = line.at, last = this.steps.at(-1);
+    if (last?.message && line.skips("at hand")) return this.steps.push({ title: "at hand", structure: line.structure(), isAtHand: true });
+    if (last?.message || last?.isAtHand) line.fault("no line behind a message and what raises it", start);
     line.take(isFirst ? "initial " : "edge ");
     const number = line.number("a number"), step = { number, isInitial: isFirst };
     if (!isFirst) {
@@ -68,7 +70,6 @@ export class Explanation {
       step.edge = { number, ...this.head(line) };
     }
     step.title = decoded(line.source.slice(start, line.at));
-    if (this.steps.at(-1)?.message) line.fault("no line behind a message", start);
     if (!isFirst && line.sees("  message ")) step.message = this.raised(line);
     else step.structure = line.structure();
     this.steps.push(step);

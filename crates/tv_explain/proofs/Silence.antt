@@ -1,5 +1,5 @@
 -- A message that is never raised has no line, and one that has no line is never raised.
-use Rattle.std.proofs.Common.{◌≡◌, ◌≢◌, ℕ, List, refl, subst}
+use Rattle.std.proofs.Common.{◌≡◌, ℕ, List, refl, subst}
 use Rattle.std.specs.Prelude.{Contains, Some, slice_get}
 use Rattle.tv_kleene.specs.Kleene.{larger_of}
 use Rattle.tv_kleene.specs.declared.K3.{K3}
@@ -9,7 +9,7 @@ use Rattle.tv_model.specs.Program.{ProgramForm}
 use Rattle.tv_model.specs.declared.program.Mode.{Mode}
 use Rattle.tv_step_laws.specs.Transfer.{IsMessageValue}
 use Rattle.tv_structure_form.specs.StructureForm.{StructureForm}
-use Rattle.tv_trail_laws.specs.Trails.{IsRaisedAt}
+use Rattle.tv_trail_laws.specs.Trails.{HasValueAt}
 use Rattle.tv_trail.specs.Reasons.{IsNeverRaised}
 use Rattle.tv_work.specs.Analyzed.{IsAnalysis, IsSaid}
 use Rattle.tv_work.specs.Reach.{IsReached, Point}
@@ -28,29 +28,27 @@ module _ (p : ProgramForm) (mode : Mode) (initial : List StructureForm) (max : �
   never : IsNeverRaised p mode initial edge number → NoLine
   never silent line there (at_edge, at_number) =
       let told = (analysis.reported line).0 there in
-      silent told.said.at told.said.source.has (record {
+      told.some (silent told.said.at line.value told.said.source.has (record {
         leaves = (
           told.said.source.taken,
           subst (λ e. slice_get p.edges e ≡ Some told.said.source.taken) at_edge told.said.source.is_edge,
           told.said.source.leaves,
         );
-        value = line.value;
         is_value = subst (λ n. IsMessageValue p edge told.said.at.structure n line.value) at_number
             (subst (λ e. IsMessageValue p e told.said.at.structure line.number line.value) at_edge told.said.value);
-        some = told.some;
-      })
+      }))
 
-  said_at : (x : Point) → IsReached p mode initial x → (r : IsRaisedAt p edge number x)
-      → IsSaid p (IsReached p mode initial) edge number r.value
-  said_at x reached r = record {
+  said_at : (x : Point) (k : K3) → IsReached p mode initial x → HasValueAt p edge number k x
+      → IsSaid p (IsReached p mode initial) edge number k
+  said_at x k reached has = record {
     at = x;
     source = record {
-      taken = r.leaves.0;
-      is_edge = r.leaves.1;
-      leaves = r.leaves.2;
+      taken = has.leaves.0;
+      is_edge = has.leaves.1;
+      leaves = has.leaves.2;
       has = reached;
     };
-    value = r.is_value;
+    value = has.is_value;
   }
 
   -- the greatest value that is said has a line
@@ -78,13 +76,13 @@ module _ (p : ProgramForm) (mode : Mode) (initial : List StructureForm) (max : �
       half_greatest Half other = refl
       half_greatest Yes other = absurd (none_surely none other)
 
-  unsaid : NoLine → (k : K3) → k ≢ No → IsSaid p (IsReached p mode initial) edge number k → ⊥
-  unsaid none No some said = some refl
-  unsaid none Half some said = none_maybe none said
-  unsaid none Yes some said = none_surely none said
+  unsaid : NoLine → (k : K3) → IsSaid p (IsReached p mode initial) edge number k → k ≡ No
+  unsaid none No said = refl
+  unsaid none Half said = absurd (none_maybe none said)
+  unsaid none Yes said = absurd (none_surely none said)
 
   silent : NoLine → IsNeverRaised p mode initial edge number
-  silent none x reached r = unsaid none r.value r.some (said_at x reached r)
+  silent none x k reached has = unsaid none k (said_at x k reached has)
 
 pub silence : SilenceIsNoLine
 silence p mode initial max listing lines edge number analysis = (

@@ -24,7 +24,7 @@ use Rattle.tv_losses_text.specs.Reports.{IsLossReport}
 use Rattle.tv_model.specs.Program.{MessageForm, ProgramForm, program_of}
 use Rattle.tv_model.specs.declared.program.Program.{Program}
 use Rattle.tv_outside.specs.Told.{Held}
-use Rattle.tv_trail.specs.Reasons.{HasNone, IsLedToBy, IsNeverRaised, IsRaisedBy}
+use Rattle.tv_trail.specs.Reasons.{HasNone, IsLedToBy, IsNeverRaised, IsRaisedBy, StaysWithin}
 use Rattle.tv_step_laws.specs.Budgets.{MeetsIndividuals, MeetsSplits}
 use Rattle.tv_structure_form.specs.StructureForm.{StructureForm}
 use Rattle.tv_texts.specs.Files.{IsProgramFile, IsReportFile}
@@ -45,7 +45,7 @@ use Rattle.tv_explain.specs.declared.fault.Unwritten.TheVariants as unwritten
 use Rattle.tv_explain.specs.declared.inputs.Drawn.{Drawn}
 use Rattle.tv_explain.specs.declared.inputs.Inputs.{Inputs}
 use Rattle.tv_explain_text.specs.Texts.{edges_text, messages_at, shown_text}
-use Rattle.tv_explain_text.specs.Trails.{raised_line, trail_text}
+use Rattle.tv_explain_text.specs.Trails.{at_hand_line, raised_line, trail_text}
 use Rattle.tv_explain_words.specs.Words.{AnalyzedForm, CommandForm, Shows, ListsEdges, TellsMessage}
 use Rattle.tv_explain_words.specs.Words.{TellsStructure, TellsLosses, Compiles, TakesStep, TellsPlan}
 use Rattle.tv_explain_words.specs.Words.{TellsCounts, Completes}
@@ -56,15 +56,17 @@ use Rattle.tv_explain_words.specs.Words.{TellsCounts, Completes}
 abbrev pub trail_lines : Inputs → Trail → List ℕ
 trail_lines inputs trail = trail_text inputs.drawn.program.vocab (heads_in inputs) trail
 
--- The text is that of a shortest trail to the message and of its value there; or that there is none, where no
--- reached structure raises the message.
+-- The text is that of a shortest trail to the greatest value of the message, of the value, and of a structure
+-- at hand that raises it; or that there is none, where the analysis ends and no reached structure raises the
+-- message.
 abbrev pub TellsOfMessage : AnalyzedForm → Inputs → (edge number : ℕ) → MessageForm → (text : List ℕ) → Type 0
 TellsOfMessage of inputs edge number message text =
-    ((trail : Trail) × (value : K3)
-    × IsRaisedBy (drawn_form inputs) of.mode inputs.initial edge number trail value
-    × (text
-    ≡ trail_lines inputs trail ++ raised_line (heads_in inputs) edge number value message.text))
-    ⊎ (IsNeverRaised (drawn_form inputs) of.mode inputs.initial edge number × (text ≡ codes "no message\n"))
+    ((trail : Trail) × (value : K3) × (at_hand : StructureForm)
+    × IsRaisedBy (drawn_form inputs) of.mode inputs.initial edge number trail value at_hand
+    × (text ≡ trail_lines inputs trail ++ (raised_line (heads_in inputs) edge number value message.text
+    ++ at_hand_line inputs.drawn.program.vocab at_hand)))
+    ⊎ (IsNeverRaised (drawn_form inputs) of.mode inputs.initial edge number
+    × StaysWithin (drawn_form inputs) of.mode inputs.initial of.max × (text ≡ codes "no message\n"))
 
 -- the message of this number among those of the edge's action is told of
 abbrev pub IsMessageText : AnalyzedForm → Inputs → (edge number : ℕ) → (text : List ℕ) → Type 0

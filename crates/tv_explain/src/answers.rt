@@ -13,7 +13,7 @@ ghost use Rattle.tv_explain.specs.Meaning.{drawn_form, heads_in};
 ghost use Rattle.tv_explain.specs.Questions.{IsTold, command_of};
 ghost use Rattle.tv_explain.specs.Work.{AreReady, GoesOnWithSteps, IsStepsStop};
 ghost use Rattle.tv_explain_text.specs.Texts.{messages_at};
-ghost use Rattle.tv_explain_text.specs.Trails.{raised_line};
+ghost use Rattle.tv_explain_text.specs.Trails.{at_hand_line, raised_line};
 ghost use Rattle.tv_explain_words.specs.Words.{AnalyzedForm, TellsLosses, TellsMessage, TellsStructure};
 ghost use Rattle.tv_explain_words.specs.Words.{TakesStep, TellsCounts, analyzed_of};
 ghost use Rattle.tv_structure_form.specs.StructureForm.{IsOver};
@@ -23,7 +23,7 @@ use crate::inputs::Inputs;
 use crate::question::Question;
 use std::alloc::{AllocError, Global};
 use tv_counts::counts_text;
-use tv_explain_text::{Told, messages_at, raised_text, trail_text};
+use tv_explain_text::{Told, append_alarm, messages_at, trail_text};
 use tv_explain_words::Analyzed;
 use tv_losses_text::explain_losses;
 use tv_model::{Bytes, Message};
@@ -68,22 +68,23 @@ fn raised_answer(
 ) -> Result<Vec<u8>, AllocError>
     requires ready { AreReady inputs.now }
     requires over { IsTrailOver inputs.now.drawn.program.vocab raised.now.trail }
+    requires at_hand { IsOver inputs.now.drawn.program.vocab raised.now.at_hand }
     ensures { IfOk result (λ text. text.items ≡ trail_lines inputs.now raised.now.trail
-        ++ raised_line (heads_in inputs.now) edge number raised.now.value message.now.text) }
+        ++ (raised_line (heads_in inputs.now) edge number raised.now.value message.now.text
+        ++ at_hand_line inputs.now.drawn.program.vocab raised.now.at_hand)) }
 {
     let told = Told {
         edge,
         number,
         value: raised.value,
         text: message.text.as_slice(),
+        at_hand: &raised.at_hand,
     };
-    raised_text(
-        alloc,
-        &inputs.drawn.program,
-        &inputs.drawn.heads,
-        &raised.trail,
-        &told,
-    )
+    let program = &inputs.drawn.program;
+    let heads = &inputs.drawn.heads;
+    let mut out = trail_text(alloc, program, heads, &raised.trail)?;
+    append_alarm(alloc, &mut out, program, heads, &told)?;
+    Ok(out)
 }
 
 /// What is told of the message of this number among those of the edge's action.

@@ -39,6 +39,10 @@ value_text Yes = codes "1"
 abbrev pub is_text : K3 → List ℕ
 is_text value = codes " is " ++ (value_text value ++ codes ": \"")
 
+-- `at hand`, and a structure that coerce and focus leave
+abbrev pub at_hand_line : Vocab → StructureForm → List ℕ
+at_hand_line vocab s = codes "at hand" ++ (line_of vocab s ++ codes "\n")
+
 -- the edge whose message it is, and behind it `message NUMBER is VALUE: "TEXT"`
 abbrev pub raised_line : (heads : List (List ℕ)) → (edge number : ℕ) → K3 → (text : List ℕ) → List ℕ
 raised_line heads edge number value text =

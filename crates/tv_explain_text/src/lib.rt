@@ -8,4 +8,4 @@ mod trails;
 
 pub use edges::{edges_text, messages_at};
 pub use shown::{append_node_line, shown_text};
-pub use trails::{Told, raised_text, trail_text};
+pub use trails::{Told, append_alarm, append_link, append_opening, trail_text};

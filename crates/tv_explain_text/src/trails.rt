@@ -6,7 +6,7 @@ ghost use Rattle.tv_model.specs.Valid.{IsValid};
 ghost use Rattle.tv_structure_form.specs.StructureForm.{IsOver};
 ghost use Rattle.tv_edge_heads.specs.Heads.{head_at};
 ghost use Rattle.tv_explain_text.specs.Texts.{numbered_edge};
-ghost use Rattle.tv_explain_text.specs.Trails.{is_text, link_line, link_lines, opening_line};
+ghost use Rattle.tv_explain_text.specs.Trails.{at_hand_line, is_text, link_line, link_lines, opening_line};
 ghost use Rattle.tv_explain_text.specs.Trails.{raised_line, trail_text, value_text};
 
 use crate::edges::append_numbered_edge;
@@ -19,13 +19,15 @@ use tv_show::append_line;
 use tv_struct::Structure;
 use tv_trail_laws::{Link, Trail};
 
-/// A message of an edge, by its number among those of the edge's action: its value and its text.
+/// A message of an edge, by its number among those of the edge's action: its value, its text, and a structure
+/// at hand at which its condition has the value.
 #[derive(Clone, Copy)]
 pub struct Told<'a> {
     pub edge: u32,
     pub number: u32,
     pub value: K3,
     pub text: &'a [u8],
+    pub at_hand: &'a Structure,
 }
 
 /// Appends the edge of this number, by its head among these.
@@ -37,7 +39,10 @@ fn append_edge_at(out: &mut Vec<u8>, heads: &[Bytes], number: u32) -> Result<(),
 }
 
 /// Appends an initial structure's number and its opening.
-fn append_opening(
+///
+/// # Errors
+/// Lack of memory.
+pub fn append_opening(
     alloc: Global,
     out: &mut Vec<u8>,
     vocab: &Vocab,
@@ -53,8 +58,11 @@ fn append_opening(
     out.extend_from_slice(b"\n")
 }
 
-/// Appends the edge of a link and the structure that comes of it.
-fn append_link(
+/// Appends the edge of a link, by its head among these, and the structure that comes of it.
+///
+/// # Errors
+/// Lack of memory.
+pub fn append_link(
     alloc: Global,
     out: &mut Vec<u8>,
     vocab: &Vocab,
@@ -140,6 +148,22 @@ fn append_raised(out: &mut Vec<u8>, heads: &[Bytes], told: &Told<'_>) -> Result<
     out.extend_from_slice(b"\"\n")
 }
 
+/// Appends a structure at hand.
+fn append_at_hand(
+    alloc: Global,
+    out: &mut Vec<u8>,
+    vocab: &Vocab,
+    s: &Structure,
+) -> Result<(), AllocError>
+    requires over { IsOver vocab.now s.now }
+    requires count { length vocab.now.preds ≤ 512 }
+    ensures { OnOk result (out.new.items ≡ out.old.items ++ at_hand_line vocab.now s.now) }
+{
+    out.extend_from_slice(b"at hand")?;
+    append_line(alloc, out, vocab, s)?;
+    out.extend_from_slice(b"\n")
+}
+
 /// A trail of a program, whose edges have these heads: `initial NUMBER` and its opening in one line, and for
 /// each link in one line `edge NUMBER`, the edge's head, and the structure that comes of it.
 ///
@@ -162,27 +186,24 @@ pub fn trail_text(
     Ok(out)
 }
 
-/// A trail, and behind it the line of a message that may be true at its end: the message's edge, and
-/// `message NUMBER is VALUE: "TEXT"`.
+/// Appends the line of a message that may be true at the end of a trail: the message's edge, and
+/// `message NUMBER is VALUE: "TEXT"`; and behind it a line `at hand` with the structure at hand that is told.
 ///
 /// # Errors
 /// Lack of memory.
-pub fn raised_text(
+pub fn append_alarm(
     alloc: Global,
+    out: &mut Vec<u8>,
     program: &Program,
     heads: &[Bytes],
-    trail: &Trail,
     told: &Told<'_>,
-) -> Result<Vec<u8>, AllocError>
+) -> Result<(), AllocError>
     requires valid { IsValid (program_of program.now) }
-    requires opening { IsOver program.now.vocab trail.now.opening }
-    requires links { All (λ link. IsOver program.now.vocab link.structure) trail.now.links }
-    ensures { IfOk result
-        (λ text. text.items ≡ trail_text program.now.vocab heads.now trail.now
-        ++ raised_line
-        heads.now told.now.edge told.now.number told.now.value told.now.text.now) }
+    requires at_hand { IsOver program.now.vocab told.now.at_hand.now }
+    ensures { OnOk result (out.new.items ≡ out.old.items ++ (raised_line heads.now told.now.edge
+        told.now.number told.now.value told.now.text.now
+        ++ at_hand_line program.now.vocab told.now.at_hand.now)) }
 {
-    let mut out = trail_text(alloc, program, heads, trail)?;
-    append_raised(&mut out, heads, told)?;
-    Ok(out)
+    append_raised(out, heads, told)?;
+    append_at_hand(alloc, out, &program.vocab, told.at_hand)
 }

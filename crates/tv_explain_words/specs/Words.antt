@@ -1,5 +1,5 @@
 -- What the words of a call spell.
-use Rattle.std.specs.Prelude.{◌≡◌, ◌<◌, ◌^◌, ℕ, Bool, false, List, [], ◌∷◌, codes, decimal}
+use Rattle.std.specs.Prelude.{◌≡◌, ◌<◌, ◌^◌, ℕ, Bool, true, false, List, [], ◌∷◌, ◌++◌, codes, decimal}
 use Rattle.std.specs.Prelude.{string_bytes}
 use Rattle.tv_model.specs.declared.program.Mode.{Mode}
 use Rattle.tv_model.specs.declared.program.Mode.TheVariants.{Given}
@@ -9,13 +9,15 @@ use Rattle.tv_explain_words.specs.declared.words.Command.{Command}
 use Rattle.tv_explain_words.specs.declared.words.Command.TheVariants.{Show, Edges, Message, Structure, Losses}
 use Rattle.tv_explain_words.specs.declared.words.Command.TheVariants.{Compiled, Step, Plan, Counts, Complete}
 
--- what an analysis is asked, its files named by bytes: as for `tvla analyze`
+-- what an analysis is asked, its files named by bytes: as for `tvla analyze`; and whether it is to be told
+-- what became unknown
 pub record AnalyzedForm : Type 0 where
   pub program : List ℕ
   pub initial : List ℕ
   pub max : ℕ
   pub mode : Mode
   pub delta : Bool
+  pub unknown : Bool
 
 abbrev pub analyzed_of : Analyzed → AnalyzedForm
 analyzed_of a = record {
@@ -24,6 +26,7 @@ analyzed_of a = record {
   max = a.max;
   mode = a.mode;
   delta = a.delta;
+  unknown = a.unknown;
 }
 
 -- a command, its files and nodes named by bytes
@@ -68,6 +71,17 @@ command_word (TellsPlan program mode delta) = codes "plan"
 command_word (TellsCounts of) = codes "counts"
 command_word (Completes program structures) = codes "complete"
 
+-- whether `--unknown` stands behind the first word
+abbrev pub asks : CommandForm → Bool
+asks (TellsMessage of edge number) = of.unknown
+asks (TellsStructure of node index) = of.unknown
+asks other = false
+
+-- the words of that option
+abbrev pub option_words : Bool → List (List ℕ)
+option_words false = []
+option_words true = codes "--unknown" ∷ []
+
 -- the word is this number, without sign or leading zero
 abbrev pub IsNumber : (word : List ℕ) → (number : ℕ) → Type 0
 IsNumber word number = (word ≡ decimal number) × (number < 2 ^ 32)
@@ -91,12 +105,14 @@ Says line (TellsMessage of edge number) = (e n : List ℕ)
 Says line (TellsStructure of node index) = (n : List ℕ)
     × (line.operands ≡ of.program ∷ of.initial ∷ node ∷ n ∷ []) × HasOptions line of × IsNumber n index
 Says line (TellsLosses of) = (line.operands ≡ of.program ∷ of.initial ∷ []) × HasOptions line of
+    × (of.unknown ≡ false)
 Says line (Compiles source) = (line.operands ≡ source ∷ []) × IsPlain line
 Says line (TakesStep of edge) = (e : List ℕ) × (line.operands ≡ of.program ∷ of.initial ∷ e ∷ [])
-    × HasOptions line of × (line.max ≡ []) × IsNumber e edge
+    × HasOptions line of × (line.max ≡ []) × IsNumber e edge × (of.unknown ≡ false)
 Says line (TellsPlan program mode delta) = (line.operands ≡ program ∷ []) × HasFlags line mode delta false
     × (line.max ≡ [])
 Says line (TellsCounts of) = (line.operands ≡ of.program ∷ of.initial ∷ []) × HasOptions line of
+    × (of.unknown ≡ false)
 Says line (Completes program structures) = (line.operands ≡ program ∷ structures ∷ []) × IsPlain line
 
 -- a line that stands on the words says the command
@@ -105,9 +121,10 @@ pub record IsRest (words : List (List ℕ)) (command : CommandForm) : Type 0 whe
   pub stands : StandsOn words line
   pub says : Says line command
 
--- the words spell this command: its name, and the rest behind it
+-- the words spell this command: its name, `--unknown` where that is asked for, and the rest behind them
 abbrev pub Spells : List (List ℕ) → CommandForm → Type 0
-Spells words command = (rest : List (List ℕ)) × (words ≡ command_word command ∷ rest) × IsRest rest command
+Spells words command = (rest : List (List ℕ))
+    × (words ≡ command_word command ∷ (option_words (asks command) ++ rest)) × IsRest rest command
 
 -- the words spell no command
 abbrev pub SpellsNothing : List (List ℕ) → Type 0
@@ -115,17 +132,19 @@ SpellsNothing words = (command : CommandForm) → ¬ Spells words command
 
 -- ---- parts of a line
 
--- the line says this command, which has the name
-abbrev pub IsSaid : (name : List ℕ) → LineForm → CommandForm → Type 0
-IsSaid name line command = (command_word command ≡ name) × Says line command
+-- the line says this command, which has the name and asks so
+abbrev pub IsSaid : (name : List ℕ) → (unknown : Bool) → LineForm → CommandForm → Type 0
+IsSaid name unknown line command = (command_word command ≡ name) × (asks command ≡ unknown)
+    × Says line command
 
--- it says no command of that name
-abbrev pub NoneSaid : (name : List ℕ) → LineForm → Type 0
-NoneSaid name line = (command : CommandForm) → ¬ IsSaid name line command
+-- it says no command of that name that asks so
+abbrev pub NoneSaid : (name : List ℕ) → (unknown : Bool) → LineForm → Type 0
+NoneSaid name unknown line = (command : CommandForm) → ¬ IsSaid name unknown line command
 
--- the analysis has these files, and the line its options
-abbrev pub IsAsked : (program initial : List ℕ) → LineForm → AnalyzedForm → Type 0
-IsAsked program initial line of = (of.program ≡ program) × (of.initial ≡ initial) × HasOptions line of
+-- the analysis has these files and asks so, and the line has its options
+abbrev pub IsAsked : (program initial : List ℕ) → (unknown : Bool) → LineForm → AnalyzedForm → Type 0
+IsAsked program initial unknown line of = (of.program ≡ program) × (of.initial ≡ initial)
+    × (of.unknown ≡ unknown) × HasOptions line of
 
 -- the line has the options of no analysis
 abbrev pub AsksNothing : LineForm → Type 0

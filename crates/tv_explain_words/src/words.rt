@@ -1,10 +1,10 @@
 //! The words after the program's name.
 
-ghost use Rattle.std.specs.Prelude.{◌≡◌, ℕ, List, [], ◌∷◌, IfOk, IfSome, IfNone, codes};
+ghost use Rattle.std.specs.Prelude.{◌≡◌, ℕ, List, [], ◌∷◌, ◌++◌, false, IsFalse, IfOk, IfSome, IfNone, codes};
 ghost use Rattle.tv_words.specs.Setup.{line_in, told_texts};
 ghost use Rattle.tv_words.specs.Words.{words_of};
 ghost use Rattle.tv_explain_words.specs.Words.{IsNumber, IsSaid, NoneSaid, Spells, SpellsNothing, SaidOf};
-ghost use Rattle.tv_explain_words.specs.Words.{AsksNothing, IsAsked, analyzed_of};
+ghost use Rattle.tv_explain_words.specs.Words.{AsksNothing, IsAsked, analyzed_of, option_words};
 
 use itoa::Buffer;
 use std::alloc::{AllocError, Global};
@@ -15,7 +15,8 @@ use tv_words::{
 };
 
 /// What an analysis is asked, as for `tvla analyze`: its files by their names, how many structures may be
-/// listed, and the mode; with `delta` the differenced program is taken, and the mode is `Given`.
+/// listed, and the mode; with `delta` the differenced program is taken, and the mode is `Given`; with `unknown`
+/// it is told what became unknown.
 #[derive(Debug, Drop)]
 pub struct Analyzed {
     pub program: String,
@@ -23,6 +24,7 @@ pub struct Analyzed {
     pub max: u64,
     pub mode: Mode,
     pub delta: bool,
+    pub unknown: bool,
 }
 
 /// What the words ask for. Files are told by their names, as the words give them.
@@ -114,9 +116,10 @@ fn asked(
     line: &Line<'_, '_>,
     program: &str,
     initial: &str,
+    unknown: bool,
 ) -> Result<Option<Analyzed>, AllocError>
     ensures some { IfOk result (λ found. IfSome found
-        (λ a. IsAsked program.now initial.now (line_in line.now) (analyzed_of a))) }
+        (λ a. IsAsked program.now initial.now unknown (line_in line.now) (analyzed_of a))) }
     ensures none { IfOk result (λ found. IfNone found (AsksNothing (line_in line.now))) }
 {
     let Some((mode, delta)) = updating(line.recompute, line.delta) else {
@@ -134,13 +137,14 @@ fn asked(
         max,
         mode,
         delta,
+        unknown,
     }))
 }
 
 /// The command of the name `show` that the line says.
 fn show(alloc: Global, line: &Line<'_, '_>) -> Result<Option<Command>, AllocError>
-    ensures some { IfOk result (λ found. IfSome found (SaidOf (IsSaid (codes "show") (line_in line.now)))) }
-    ensures none { IfOk result (λ found. IfNone found (NoneSaid (codes "show") (line_in line.now))) }
+    ensures some { IfOk result (λ found. IfSome found (SaidOf (IsSaid (codes "show") false (line_in line.now)))) }
+    ensures none { IfOk result (λ found. IfNone found (NoneSaid (codes "show") false (line_in line.now))) }
 {
     let Some((program, report)) = two(line.operands) else {
         return Ok(None);
@@ -156,8 +160,8 @@ fn show(alloc: Global, line: &Line<'_, '_>) -> Result<Option<Command>, AllocErro
 
 /// The command of the name `edges` that the line says.
 fn edges(alloc: Global, line: &Line<'_, '_>) -> Result<Option<Command>, AllocError>
-    ensures some { IfOk result (λ found. IfSome found (SaidOf (IsSaid (codes "edges") (line_in line.now)))) }
-    ensures none { IfOk result (λ found. IfNone found (NoneSaid (codes "edges") (line_in line.now))) }
+    ensures some { IfOk result (λ found. IfSome found (SaidOf (IsSaid (codes "edges") false (line_in line.now)))) }
+    ensures none { IfOk result (λ found. IfNone found (NoneSaid (codes "edges") false (line_in line.now))) }
 {
     let Some(program) = one(line.operands) else {
         return Ok(None);
@@ -170,11 +174,15 @@ fn edges(alloc: Global, line: &Line<'_, '_>) -> Result<Option<Command>, AllocErr
     }))
 }
 
-/// The command of the name `message` that the line says.
-fn message(alloc: Global, line: &Line<'_, '_>) -> Result<Option<Command>, AllocError>
+/// The command of the name `message` that the line says, which asks so.
+fn message(
+    alloc: Global,
+    line: &Line<'_, '_>,
+    unknown: bool,
+) -> Result<Option<Command>, AllocError>
     ensures some { IfOk result
-        (λ found. IfSome found (SaidOf (IsSaid (codes "message") (line_in line.now)))) }
-    ensures none { IfOk result (λ found. IfNone found (NoneSaid (codes "message") (line_in line.now))) }
+        (λ found. IfSome found (SaidOf (IsSaid (codes "message") unknown (line_in line.now)))) }
+    ensures none { IfOk result (λ found. IfNone found (NoneSaid (codes "message") unknown (line_in line.now))) }
 {
     let Some((program, initial, edge, message)) = four(line.operands) else {
         return Ok(None);
@@ -185,17 +193,21 @@ fn message(alloc: Global, line: &Line<'_, '_>) -> Result<Option<Command>, AllocE
     let Some(number) = number(message) else {
         return Ok(None);
     };
-    let Some(of) = asked(alloc, line, program, initial)? else {
+    let Some(of) = asked(alloc, line, program, initial, unknown)? else {
         return Ok(None);
     };
     Ok(Some(Command::Message { of, edge, number }))
 }
 
-/// The command of the name `structure` that the line says.
-fn structure(alloc: Global, line: &Line<'_, '_>) -> Result<Option<Command>, AllocError>
+/// The command of the name `structure` that the line says, which asks so.
+fn structure(
+    alloc: Global,
+    line: &Line<'_, '_>,
+    unknown: bool,
+) -> Result<Option<Command>, AllocError>
     ensures some { IfOk result
-        (λ found. IfSome found (SaidOf (IsSaid (codes "structure") (line_in line.now)))) }
-    ensures none { IfOk result (λ found. IfNone found (NoneSaid (codes "structure") (line_in line.now))) }
+        (λ found. IfSome found (SaidOf (IsSaid (codes "structure") unknown (line_in line.now)))) }
+    ensures none { IfOk result (λ found. IfNone found (NoneSaid (codes "structure") unknown (line_in line.now))) }
 {
     let Some((program, initial, node, index)) = four(line.operands) else {
         return Ok(None);
@@ -203,7 +215,7 @@ fn structure(alloc: Global, line: &Line<'_, '_>) -> Result<Option<Command>, Allo
     let Some(index) = number(index) else {
         return Ok(None);
     };
-    let Some(of) = asked(alloc, line, program, initial)? else {
+    let Some(of) = asked(alloc, line, program, initial, unknown)? else {
         return Ok(None);
     };
     Ok(Some(Command::Structure {
@@ -215,13 +227,13 @@ fn structure(alloc: Global, line: &Line<'_, '_>) -> Result<Option<Command>, Allo
 
 /// The command of the name `losses` that the line says.
 fn losses(alloc: Global, line: &Line<'_, '_>) -> Result<Option<Command>, AllocError>
-    ensures some { IfOk result (λ found. IfSome found (SaidOf (IsSaid (codes "losses") (line_in line.now)))) }
-    ensures none { IfOk result (λ found. IfNone found (NoneSaid (codes "losses") (line_in line.now))) }
+    ensures some { IfOk result (λ found. IfSome found (SaidOf (IsSaid (codes "losses") false (line_in line.now)))) }
+    ensures none { IfOk result (λ found. IfNone found (NoneSaid (codes "losses") false (line_in line.now))) }
 {
     let Some((program, initial)) = two(line.operands) else {
         return Ok(None);
     };
-    let Some(of) = asked(alloc, line, program, initial)? else {
+    let Some(of) = asked(alloc, line, program, initial, false)? else {
         return Ok(None);
     };
     Ok(Some(Command::Losses { of }))
@@ -230,8 +242,8 @@ fn losses(alloc: Global, line: &Line<'_, '_>) -> Result<Option<Command>, AllocEr
 /// The command of the name `compiled` that the line says.
 fn compiled(alloc: Global, line: &Line<'_, '_>) -> Result<Option<Command>, AllocError>
     ensures some { IfOk result
-        (λ found. IfSome found (SaidOf (IsSaid (codes "compiled") (line_in line.now)))) }
-    ensures none { IfOk result (λ found. IfNone found (NoneSaid (codes "compiled") (line_in line.now))) }
+        (λ found. IfSome found (SaidOf (IsSaid (codes "compiled") false (line_in line.now)))) }
+    ensures none { IfOk result (λ found. IfNone found (NoneSaid (codes "compiled") false (line_in line.now))) }
 {
     let Some(source) = one(line.operands) else {
         return Ok(None);
@@ -246,8 +258,8 @@ fn compiled(alloc: Global, line: &Line<'_, '_>) -> Result<Option<Command>, Alloc
 
 /// The command of the name `step` that the line says.
 fn step(alloc: Global, line: &Line<'_, '_>) -> Result<Option<Command>, AllocError>
-    ensures some { IfOk result (λ found. IfSome found (SaidOf (IsSaid (codes "step") (line_in line.now)))) }
-    ensures none { IfOk result (λ found. IfNone found (NoneSaid (codes "step") (line_in line.now))) }
+    ensures some { IfOk result (λ found. IfSome found (SaidOf (IsSaid (codes "step") false (line_in line.now)))) }
+    ensures none { IfOk result (λ found. IfNone found (NoneSaid (codes "step") false (line_in line.now))) }
 {
     let Some((program, structures, edge)) = three(line.operands) else {
         return Ok(None);
@@ -258,7 +270,7 @@ fn step(alloc: Global, line: &Line<'_, '_>) -> Result<Option<Command>, AllocErro
     if has_values(line.max) {
         return Ok(None);
     }
-    let Some(of) = asked(alloc, line, program, structures)? else {
+    let Some(of) = asked(alloc, line, program, structures, false)? else {
         return Ok(None);
     };
     Ok(Some(Command::Step { of, edge }))
@@ -266,8 +278,8 @@ fn step(alloc: Global, line: &Line<'_, '_>) -> Result<Option<Command>, AllocErro
 
 /// The command of the name `plan` that the line says.
 fn plan(alloc: Global, line: &Line<'_, '_>) -> Result<Option<Command>, AllocError>
-    ensures some { IfOk result (λ found. IfSome found (SaidOf (IsSaid (codes "plan") (line_in line.now)))) }
-    ensures none { IfOk result (λ found. IfNone found (NoneSaid (codes "plan") (line_in line.now))) }
+    ensures some { IfOk result (λ found. IfSome found (SaidOf (IsSaid (codes "plan") false (line_in line.now)))) }
+    ensures none { IfOk result (λ found. IfNone found (NoneSaid (codes "plan") false (line_in line.now))) }
 {
     let Some(program) = one(line.operands) else {
         return Ok(None);
@@ -287,13 +299,13 @@ fn plan(alloc: Global, line: &Line<'_, '_>) -> Result<Option<Command>, AllocErro
 
 /// The command of the name `counts` that the line says.
 fn counts(alloc: Global, line: &Line<'_, '_>) -> Result<Option<Command>, AllocError>
-    ensures some { IfOk result (λ found. IfSome found (SaidOf (IsSaid (codes "counts") (line_in line.now)))) }
-    ensures none { IfOk result (λ found. IfNone found (NoneSaid (codes "counts") (line_in line.now))) }
+    ensures some { IfOk result (λ found. IfSome found (SaidOf (IsSaid (codes "counts") false (line_in line.now)))) }
+    ensures none { IfOk result (λ found. IfNone found (NoneSaid (codes "counts") false (line_in line.now))) }
 {
     let Some((program, initial)) = two(line.operands) else {
         return Ok(None);
     };
-    match asked(alloc, line, program, initial)? {
+    match asked(alloc, line, program, initial, false)? {
         Some(of) => Ok(Some(Command::Counts { of })),
         None => Ok(None),
     }
@@ -302,8 +314,8 @@ fn counts(alloc: Global, line: &Line<'_, '_>) -> Result<Option<Command>, AllocEr
 /// The command of the name `complete` that the line says.
 fn complete(alloc: Global, line: &Line<'_, '_>) -> Result<Option<Command>, AllocError>
     ensures some { IfOk result
-        (λ found. IfSome found (SaidOf (IsSaid (codes "complete") (line_in line.now)))) }
-    ensures none { IfOk result (λ found. IfNone found (NoneSaid (codes "complete") (line_in line.now))) }
+        (λ found. IfSome found (SaidOf (IsSaid (codes "complete") false (line_in line.now)))) }
+    ensures none { IfOk result (λ found. IfNone found (NoneSaid (codes "complete") false (line_in line.now))) }
 {
     let Some((program, structures)) = two(line.operands) else {
         return Ok(None);
@@ -317,16 +329,20 @@ fn complete(alloc: Global, line: &Line<'_, '_>) -> Result<Option<Command>, Alloc
     }))
 }
 
-/// The command of that name that the line says.
-fn said(alloc: Global, name: &str, line: &Line<'_, '_>) -> Result<Option<Command>, AllocError>
-    ensures some { IfOk result (λ found. IfSome found (SaidOf (IsSaid name.now (line_in line.now)))) }
-    ensures none { IfOk result (λ found. IfNone found (NoneSaid name.now (line_in line.now))) }
+/// The command of that name that the line says, which doesn't ask what became unknown.
+fn said_plainly(
+    alloc: Global,
+    name: &str,
+    line: &Line<'_, '_>,
+) -> Result<Option<Command>, AllocError>
+    ensures some { IfOk result (λ found. IfSome found (SaidOf (IsSaid name.now false (line_in line.now)))) }
+    ensures none { IfOk result (λ found. IfNone found (NoneSaid name.now false (line_in line.now))) }
 {
     match name {
         "show" => show(alloc, line),
         "edges" => edges(alloc, line),
-        "message" => message(alloc, line),
-        "structure" => structure(alloc, line),
+        "message" => message(alloc, line, false),
+        "structure" => structure(alloc, line, false),
         "losses" => losses(alloc, line),
         "compiled" => compiled(alloc, line),
         "step" => step(alloc, line),
@@ -334,6 +350,39 @@ fn said(alloc: Global, name: &str, line: &Line<'_, '_>) -> Result<Option<Command
         "counts" => counts(alloc, line),
         "complete" => complete(alloc, line),
         _ => Ok(None),
+    }
+}
+
+/// The command of that name that the line says, which asks so.
+fn said(
+    alloc: Global,
+    name: &str,
+    unknown: bool,
+    line: &Line<'_, '_>,
+) -> Result<Option<Command>, AllocError>
+    ensures some { IfOk result
+        (λ found. IfSome found (SaidOf (IsSaid name.now unknown (line_in line.now)))) }
+    ensures none { IfOk result (λ found. IfNone found (NoneSaid name.now unknown (line_in line.now))) }
+{
+    if !unknown {
+        return said_plainly(alloc, name, line);
+    }
+    match name {
+        "message" => message(alloc, line, true),
+        "structure" => structure(alloc, line, true),
+        _ => Ok(None),
+    }
+}
+
+/// Whether `--unknown` is the first word, and the words behind it.
+fn option_of(words: &[String]) -> (bool, &[String])
+    ensures words { words_of words.now ≡ option_words result.0 ++ words_of result.1.now }
+    ensures first { IsFalse result.0 → (rest : List (List ℕ))
+        → ¬ (words_of words.now ≡ codes "--unknown" ∷ rest) }
+{
+    match words.split_first() {
+        Some((first, rest)) if first.as_str() == "--unknown" => (true, rest),
+        _ => (false, words),
     }
 }
 
@@ -348,8 +397,9 @@ pub fn read_words(alloc: Global, words: &[String]) -> Result<Option<Command>, Al
     let Some((name, behind)) = words.split_first() else {
         return Ok(None);
     };
-    let Some(matches) = read_line(command_line(alloc)?, behind)? else {
+    let (unknown, rest) = option_of(behind);
+    let Some(matches) = read_line(command_line(alloc)?, rest)? else {
         return Ok(None);
     };
-    said(alloc, name.as_str(), &told_line(&matches))
+    said(alloc, name.as_str(), unknown, &told_line(&matches))
 }

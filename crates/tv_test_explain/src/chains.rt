@@ -21,12 +21,13 @@ const ASKED_OF_BOTH: Row<'static, 'static, 'static, 'static> = Row {
 };
 
 /// `b` is false at `L0` and true at `L1`, but for the second structure.
-pub static CHAINS: [Row<'static, 'static, 'static, 'static>; 17] = [
+pub static CHAINS: [Row<'static, 'static, 'static, 'static>; 19] = [
     Row {
         words: &["message", "p", "i", "3", "0"],
         out: "initial 0
 edge 0  p:11  L0 Go ( ) L1  b
 edge 3  p:14  L1 Say ( ) L2  message 0 is 1: \"still on\"
+at hand  b
 ",
         ..ASKED
     },
@@ -35,6 +36,7 @@ edge 3  p:14  L1 Say ( ) L2  message 0 is 1: \"still on\"
         out: "initial 0
 edge 0  p:11  L0 Go ( ) L1  b
 edge 2  p:13  L1 Go ( ) L0  message 1 is 1: \"on\"
+at hand  b
 ",
         ..ASKED
     },
@@ -56,6 +58,7 @@ edge 2  p:13  L1 Go ( ) L0  message 1 is 1: \"on\"
         out: "initial 1
 edge 0  p:11  L0 Go ( ) L1  b
 edge 3  p:14  L1 Say ( ) L2  message 0 is 1: \"still on\"
+at hand  b
 ",
         ..ASKED_OF_BOTH
     },
@@ -64,6 +67,7 @@ edge 3  p:14  L1 Say ( ) L2  message 0 is 1: \"still on\"
         words: &["message", "p", "i", "0", "1"],
         out: "initial 0  b
 edge 0  p:11  L0 Go ( ) L1  message 1 is 1: \"on\"
+at hand  b
 ",
         ..ASKED_OF_BOTH
     },
@@ -79,6 +83,42 @@ edge 0  p:11  L0 Go ( ) L1  message 1 is 1: \"on\"
         ],
         out: "initial 0  ((#0))-n?->((#0))  (#1&x?)-n->((#0))
 edge 0  p:11  L0 Go ( ) L1  message 0 is 1/2: \"x is somewhere\"
+at hand  ((#0))-n?->((#0))  (#1&x?)-n->((#0))
+",
+        ..PLAIN
+    },
+    // the greatest value, though fewer steps lead to another
+    Row {
+        words: &["message", "p", "i", "0", "0"],
+        files: &[
+            (
+                "p",
+                "%p b() %% %action Say() { %message b() -> \"on\" } %action Set() { { b() = 1 } } %%
+L Say() M
+L Set() L",
+            ),
+            ("i", "%n = {} %p = { b = 1/2 }"),
+        ],
+        out: "initial 0  b?
+edge 1  p:3  L Set ( ) L  b
+edge 0  p:2  L Say ( ) M  message 0 is 1: \"on\"
+at hand  b
+",
+        ..PLAIN
+    },
+    // of what focus leaves that at which the condition has the value
+    Row {
+        words: &["message", "p", "i", "0", "0"],
+        files: &[
+            (
+                "p",
+                "%p x(v) %% %action Look() { %f { x(v) } %message E(v) x(v) -> \"seen\" } %% L Look() L",
+            ),
+            ("i", "%n = {u} %p = { x = {u:1/2} }"),
+        ],
+        out: "initial 0  (#0&x?)
+edge 0  p:1  L Look ( ) L  message 0 is 1: \"seen\"
+at hand  (x)
 ",
         ..PLAIN
     },
@@ -97,6 +137,7 @@ edge 0  p:11  L0 Go ( ) L1  message 0 is 1/2: \"x is somewhere\"
         out: "initial 0
 edge 0  p:11  L0 Go ( ) L1  b
 edge 3  p:14  L1 Say ( ) L2  message 0 is 1: \"still on\"
+at hand  b
 ",
         ..ASKED
     },
@@ -112,6 +153,7 @@ edge 3  p:14  L1 Say ( ) L2  message 0 is 1: \"still on\"
         ],
         out: "initial 0  b
 edge 0  p:11  L0 Go ( ) L1  message 1 is 1: \"on\"
+at hand  b
 ",
         files: &[("p", PROGRAM), ("i", "%n = {} %p = { b = 1 }")],
         ..PLAIN
@@ -156,6 +198,7 @@ edge 0  p:11  L0 Go ( ) L1  b
         ],
         out: "initial 1
 edge 0  p:1  L Say ( ) L  message 0 is 1: \"off\"
+at hand
 ",
         ..PLAIN
     },

@@ -1,17 +1,19 @@
 -- One more is met: what is then known of the search.
 use Rattle.std.proofs.Common.{ℕ, ◌≡◌, ◌<◌, ◌-◌, ◌⊎◌, inl, inr, List, [], ◌∷◌, ◌++◌, length, map}
-use Rattle.std.proofs.Common.{None}
+use Rattle.std.proofs.Common.{◌≤◌, None, Some}
 use Rattle.std.proofs.Common.{zero, suc, refl, sym, ap, subst, ◌∙◌, arith}
-use Rattle.std.specs.Prelude.{All, slice_get}
+use Rattle.std.specs.Prelude.{All, Contains, slice_get}
 use Rattle.std.proofs.lemmas.List.{length-append, length-map, length-set}
 use Rattle.tv_lemmas.proofs.Lists.{pushed_there}
 use Rattle.tv_listing.specs.ListingForm.{at_node, appended, HasEqual}
+use Rattle.tv_model.proofs.Lists.{Contains-cases, Contains-none}
 use Rattle.tv_structure_form.specs.StructureForm.{StructureForm}
 use Rattle.tv_work.specs.Reach.{Point, IsListed, AreMoreThan}
 use Rattle.tv_work.proofs.Causes.{more-weaker}
-use Rattle.tv_work.proofs.Meeting.{listed-cases, total-more}
+use Rattle.tv_work.proofs.Meeting.{listed-cases, listed-kept, listed-new, total-more}
+use Rattle.tv_trail_laws.specs.declared.trail.Origin.{Origin}
 use Rattle.tv_trail_laws.specs.Met.{Found, IsMet}
-use Rattle.tv_trail_laws.proofs.Places.{met-more}
+use Rattle.tv_trail_laws.proofs.Places.{at-cases, met-more}
 use Rattle.tv_trail.specs.declared.search.Met.{Met}
 use Rattle.tv_trail.specs.Searched.{TraceForm, found_in, IsPlaced, AreListedMet, Meets}
 use Rattle.tv_trail.proofs.Placing.{found-more, placed-equal, placed-over}
@@ -78,6 +80,10 @@ module _ (listing : List (List StructureForm)) (met : List Met) (placed : IsPlac
       pub met-listed : AreListedMet after
       met-listed = record {
         met = λ x has. by x (listed-cases listing node s is-node x has);
+        listed = λ x (place, origin, e).
+            stands x origin place
+            (at-cases (trace listing met).found (one ∷ []) place (record { point = x; origin = origin })
+            (subst (λ l. slice_get l place ≡ Some (record { point = x; origin = origin })) found-after e));
         count = omega (
           arith,
           ap length found-after,
@@ -93,3 +99,18 @@ module _ (listing : List (List StructureForm)) (met : List Met) (placed : IsPlac
               subst (λ l. IsMet l x) (sym found-after)
               (met-more (trace listing met).found (one ∷ []) x (listed.met x has))
           by x (inr e) = subst (IsMet after.found) (sym e) met-has
+
+          only : (f : Found) → (one ≡ f) ⊎ Contains [] f → IsListed after.listing f.point
+          only f (inl e) =
+              subst (λ (g : Found). IsListed after.listing g.point) e (listed-new listing node s is-node)
+          only f (inr there) = absurd (Contains-none f there)
+
+          stands : (x : Point) (origin : Origin) (place : ℕ)
+              → (slice_get (trace listing met).found place ≡ Some (record { point = x; origin = origin }))
+              ⊎ ((length (trace listing met).found ≤ place)
+              × Contains (one ∷ []) (record { point = x; origin = origin })) → IsListed after.listing x
+          stands x origin place (inl was) =
+              listed-kept listing node s is-node x (listed.listed x (place, (origin, was)))
+          stands x origin place (inr (past, has)) =
+              only (record { point = x; origin = origin })
+              (Contains-cases one (record { point = x; origin = origin }) [] has)

@@ -3,29 +3,25 @@ use Rattle.std.proofs.Common.{ℕ, suc, ◌-◌, ◌<◌, length, get_or, ◌≡
 use Rattle.std.proofs.Common.{subst, ◌∙◌, arith}
 use Rattle.std.proofs.Common.{Contains}
 use Rattle.std.specs.Prelude.{All, Any, IfNone, Option, slice_get}
-use Rattle.std.proofs.lemmas.Option.{same_Some}
 use Rattle.tv_kleene.specs.declared.K3.{K3}
-use Rattle.tv_kleene.specs.declared.K3.TheVariants.{No}
 use Rattle.tv_listing.specs.ListingForm.{at_node}
 use Rattle.tv_listing.specs.declared.analysis.MessageLine.{MessageLine}
 use Rattle.tv_model.specs.declared.program.Mode.{Mode}
 use Rattle.tv_model.specs.declared.program.Vocab.{Vocab}
 use Rattle.tv_model.specs.Program.{ProgramForm}
-use Rattle.tv_model.specs.Valid.{IsValid}
 use Rattle.tv_model.proofs.Lists.{slice_get-contains}
 use Rattle.tv_structure_form.specs.StructureForm.{StructureForm, IsOver, IsStructure}
 use Rattle.tv_struct.specs.declared.analysis.StageError.{StageError}
 use Rattle.tv_step_laws.specs.Budgets.{IsStepCause}
-use Rattle.tv_step_laws.specs.Laws.{StepsAreExact}
-use Rattle.tv_step_laws.specs.Transfer.{AreMessageValues, IsMessageValue, IsOpening}
+use Rattle.tv_step_laws.specs.Transfer.{IsMessageValue, IsOpening}
 use Rattle.tv_trail.specs.Over.{IsTrailOver}
-use Rattle.tv_trail_laws.specs.Trails.{IsRaisedAt, IsShortest, IsTrailTo, LeadOn}
+use Rattle.tv_trail_laws.specs.Trails.{HasValueAt, IsShortest, IsTrailTo, LeadOn}
 use Rattle.tv_trail_laws.specs.declared.trail.Link.{Link}
 use Rattle.tv_trail_laws.specs.declared.trail.Trail.{Trail}
 use Rattle.tv_work.specs.Analyzed.{IsAnalysis, IsWorkCause, work_error}
 use Rattle.tv_work.proofs.Causes.{step-cause}
 use Rattle.tv_work.specs.Reach.{Point, IsReached, IsStartPoint}
-use Rattle.tv_trail.specs.Reasons.{IsRaisedBy, last_from, last_of}
+use Rattle.tv_trail.specs.Reasons.{last_from, last_of}
 
 -- ---- the last structure
 
@@ -86,53 +82,25 @@ module _ (p : ProgramForm) (mode : Mode) (initial : List StructureForm) where
         };
       }
 
-  -- a step there that meets a budget is the cause of a search's
-  pub end-cause : (max edge number : ℕ) (trail : Trail)
-      → IsShortest p mode initial (IsRaisedAt p edge number) trail → (s : StructureForm) → s ≡ last_of trail
-      → (fault : StageError) → IsStepCause p edge s fault
-      → IsWorkCause p max (IsReached p mode initial) (work_error fault)
-  end-cause max edge number trail shortest s same fault cause =
-      step-cause p max edge (IsReached p mode initial) shortest.last (record {
-        taken = shortest.is_goal.leaves.0;
-        is_edge = shortest.is_goal.leaves.1;
-        leaves = shortest.is_goal.leaves.2;
-        has = trail-reached trail shortest.last shortest.is_trail;
-      }) fault
-      (subst (λ t. IsStepCause p edge t fault) (same ∙ trail-last trail shortest.last shortest.is_trail) cause)
+  module _ (edge number : ℕ) (trail : Trail) (k : K3)
+      (shortest : IsShortest p mode initial (HasValueAt p edge number k) trail) where
+    -- a step there that meets a budget is the cause of a search's
+    pub end-cause : (max : ℕ) (fault : StageError) → IsStepCause p edge (last_of trail) fault
+        → IsWorkCause p max (IsReached p mode initial) (work_error fault)
+    end-cause max fault cause =
+        step-cause p max edge (IsReached p mode initial) shortest.last (record {
+          taken = shortest.is_goal.leaves.0;
+          is_edge = shortest.is_goal.leaves.1;
+          leaves = shortest.is_goal.leaves.2;
+          has = trail-reached trail shortest.last shortest.is_trail;
+        }) fault
+        (subst (λ t. IsStepCause p edge t fault) (trail-last trail shortest.last shortest.is_trail) cause)
 
-  -- ---- the value there
-
-  module _ (exact : StepsAreExact) (valid : IsValid p) (edge number : ℕ) (trail : Trail)
-      (shortest : IsShortest p mode initial (IsRaisedAt p edge number) trail)
-      (values : List K3) (are : AreMessageValues p edge (last_of trail) values) where
-    value-there : slice_get values number ≡ Some shortest.is_goal.value
-    value-there = by shortest.is_goal.is_value
-      where
-        same : last_of trail ≡ shortest.last.structure
-        same = trail-last trail shortest.last shortest.is_trail
-
-        by : IsMessageValue p edge shortest.last.structure number shortest.is_goal.value
-            → slice_get values number ≡ Some shortest.is_goal.value
-        by (ks, too, at) =
-            let one : values ≡ ks = (exact p valid shortest.last.structure).values edge values ks
-            (subst (λ s. AreMessageValues p edge s values) same are) too
-            in ap (λ vs. slice_get vs number) one ∙ at
-
-    pub raised-never-none : {P : Type 0} → None ≡ slice_get values number → P
-    raised-never-none e = absurd (none-some (e ∙ value-there))
-      where
-        none-some : {k : K3} → None ≡ Some k → ⊥
-        none-some h = cc
-
-    pub raised-there : (value : K3) → Some value ≡ slice_get values number
-        → IsRaisedBy p mode initial edge number trail value
-    raised-there value e =
-        let same : value ≡ shortest.is_goal.value = same_Some value shortest.is_goal.value (e ∙ value-there)
-        in record {
-          shortest = shortest;
-          is_value = (values, are, sym e);
-          some = λ no. shortest.is_goal.some (sym same ∙ no);
-        }
+    -- the message has its value there
+    pub value-there : IsMessageValue p edge (last_of trail) number k
+    value-there =
+        subst (λ t. IsMessageValue p edge t number k) (sym (trail-last trail shortest.last shortest.is_trail))
+        shortest.is_goal.is_value
 
 -- ---- a listed structure
 

@@ -5,6 +5,7 @@ use Rattle.std.proofs.lemmas.Bool.{cases_lt}
 use Rattle.std.proofs.lemmas.List.Elements.{All-contains}
 use Rattle.std.proofs.lemmas.Option.{same_Some}
 use Rattle.tv_structure_form.specs.StructureForm.{StructureForm}
+use Rattle.tv_step_laws.specs.Budgets.{KeepsBudgets}
 use Rattle.tv_work.specs.Leaving.{LeavesBy}
 use Rattle.tv_work.specs.Reach.{Point}
 use Rattle.tv_work.specs.Task.{TaskForm}
@@ -20,8 +21,8 @@ use Rattle.tv_trail.proofs.Kept.{at-on, along-on, opened-on, passed-on}
 module _ (t : TaskForm) (P : Found → Type 0) (old new : TraceForm) (meets : Meets P old new) where
   pub answers-on : (goal : Goal) (place edge : ℕ) → AnswersAlong t goal place edge old.found false
       → AnswersAlong t goal place edge new.found false
-  answers-on goal place edge (x, at, none, followed) =
-      (x, at-on P old new meets place x at, none, along-on P t old new meets edge x followed)
+  answers-on goal place edge (x, at, none, followed, budgets) =
+      (x, at-on P old new meets place x at, none, along-on P t old new meets edge x followed, budgets)
 
   pub here-on : (G : Point → Type 0) (place : ℕ) → AnswersHere t G place old.found false
       → AnswersHere t G place new.found false
@@ -32,16 +33,16 @@ module _ (t : TaskForm) (goal : Goal) (found : List Found) (place : ℕ) (x : Po
     (edges : List ℕ) (leaving : (edge : ℕ) → LeavesBy t.program.edges x.node edge → Contains edges edge)
     (all : All (λ edge. AnswersAlong t goal place edge found false) edges)
     (nowhere : ¬ IsThere goal x.node x.structure) where
-  along : (edge : ℕ) → LeavesBy t.program.edges x.node edge
-      → (¬ IsGoalAlong t.program goal edge x) × IsFollowedAlong t found edge x
+  abbrev IsDoneAlong : (edge : ℕ) → Point → Type 0
+  IsDoneAlong edge y = (¬ IsGoalAlong t.program goal edge y) × IsFollowedAlong t found edge y
+      × KeepsBudgets t.program edge y.structure
+
+  along : (edge : ℕ) → LeavesBy t.program.edges x.node edge → IsDoneAlong edge x
   along edge leaves =
       by (All-contains (λ e. AnswersAlong t goal place e found false) edges edge all (leaving edge leaves))
     where
-      by : AnswersAlong t goal place edge found false
-          → (¬ IsGoalAlong t.program goal edge x) × IsFollowedAlong t found edge x
-      by (y, there, none, follows) =
-          subst (λ z. (¬ IsGoalAlong t.program goal edge z) × IsFollowedAlong t found edge z)
-          (at-once found place y x there at) (none, follows)
+      by : AnswersAlong t goal place edge found false → IsDoneAlong edge x
+      by (y, there, done) = subst (IsDoneAlong edge) (at-once found place y x there at) done
 
   no-goal : ¬ IsGoal t.program goal x
   no-goal is = by (goal-cases t.program goal x is)
@@ -56,7 +57,15 @@ module _ (t : TaskForm) (goal : Goal) (found : List Found) (place : ℕ) (x : Po
       (along edge (taken, leads.is_edge, leads.leaves)).1 taken y leads
 
   pub passed-here : AnswersHere t (IsGoal t.program goal) place found false
-  passed-here = (x, at, (no-goal, followed))
+  passed-here = (
+    x,
+    at,
+    record {
+      none = no-goal;
+      followed = followed;
+      budgets = λ edge leaves. (along edge leaves).2;
+    },
+  )
 
 -- ---- one after the other
 

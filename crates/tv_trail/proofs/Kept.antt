@@ -65,8 +65,11 @@ module _ (P : Found → Type 0) where
 
   pub passed-on : (t : TaskForm) (G : Point → Type 0) (old new : TraceForm) → Meets P old new → (x : Point)
       → IsPassed t G old.found x → IsPassed t G new.found x
-  passed-on t G old new meets x (none, followed) =
-      (none, λ y follows. met-on old new meets y (followed y follows))
+  passed-on t G old new meets x passed = record {
+    none = passed.none;
+    followed = λ y follows. met-on old new meets y (passed.followed y follows);
+    budgets = passed.budgets;
+  }
 
   pub longer-on : (old new : TraceForm) → Meets P old new → length old.found ≤ length new.found
   longer-on old new meets =
@@ -167,6 +170,7 @@ state-none t = record {
   within = omega arith;
   listed = record {
     met = λ x has. absurd (nothing-listed (length t.program.nodes) x has);
+    listed = λ x (place, origin, e). absurd (cc e);
     count = sym (listed-none (length t.program.nodes));
   };
   traced = λ place f e. absurd (cc e);

@@ -1,8 +1,10 @@
 mod Adding
 mod Aiming
 mod Answering
+mod Causing
 mod Ends
 mod Following
+mod Greatest
 mod Kept
 mod Levelling
 mod Placing

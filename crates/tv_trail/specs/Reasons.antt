@@ -1,18 +1,19 @@
 -- Why a message may be true, and why a structure is listed: a shortest abstract run that leads there.
-use Rattle.std.specs.Prelude.{ℕ, ◌≡◌, ◌≢◌, ◌≤◌, List, [], ◌∷◌, length, Some, slice_get}
+use Rattle.std.specs.Prelude.{ℕ, ◌≡◌, ◌≢◌, ◌≤◌, List, [], ◌∷◌, length, Some, slice_get, sum_by}
 use Rattle.tv_kleene.specs.declared.K3.{K3}
 use Rattle.tv_kleene.specs.declared.K3.TheVariants.{No}
+use Rattle.tv_kleene.specs.Kleene.{larger_of}
 use Rattle.tv_listing.specs.ListingForm.{at_node}
 use Rattle.tv_listing.specs.declared.analysis.MessageLine.{MessageLine}
 use Rattle.tv_model.specs.Program.{ProgramForm}
 use Rattle.tv_model.specs.declared.program.Mode.{Mode}
-use Rattle.tv_step_laws.specs.Transfer.{IsMessageValue}
 use Rattle.tv_structure_form.specs.StructureForm.{StructureForm, unmarked}
-use Rattle.tv_trail_laws.specs.Trails.{IsRaisedAt, IsShortest}
+use Rattle.tv_trail_laws.specs.Trails.{HasValueAt, IsShortest}
 use Rattle.tv_trail_laws.specs.declared.trail.Link.{Link}
 use Rattle.tv_trail_laws.specs.declared.trail.Trail.{Trail}
-use Rattle.tv_work.specs.Analyzed.{IsAnalysis}
-use Rattle.tv_work.specs.Reach.{Point, IsReached}
+use Rattle.tv_work.specs.Analyzed.{IsAnalysis, KeepAllBudgets}
+use Rattle.tv_work.specs.Reach.{Point, IsListed, IsReached}
+use Rattle.tv_trail.specs.Causes.{IsCauseAt}
 
 -- the structure at which a trail ends
 abbrev pub last_from : StructureForm → List Link → StructureForm
@@ -24,18 +25,34 @@ last_of trail = last_from trail.opening trail.links
 
 -- ---- messages
 
--- The trail leads to a structure at which the message isn't No, in as few steps as any, and it has this value
--- there.
-pub record IsRaisedBy (p : ProgramForm) (mode : Mode) (initial : List StructureForm) (edge number : ℕ)
-    (trail : Trail) (value : K3) : Type 0 where
-  pub shortest : IsShortest p mode initial (IsRaisedAt p edge number) trail
-  pub is_value : IsMessageValue p edge (last_of trail) number value
-  pub some : value ≢ No
+-- The trail leads in as few steps as any to a structure at which the message has this value, which isn't No;
+-- no reached structure gives it a greater one.
+pub record LeadsToGreatest (p : ProgramForm) (mode : Mode) (initial : List StructureForm) (edge number : ℕ)
+    (trail : Trail) (k : K3) : Type 0 where
+  pub some : k ≢ No
+  pub shortest : IsShortest p mode initial (HasValueAt p edge number k) trail
+  pub greatest : (x : Point) (other : K3) → IsReached p mode initial x → HasValueAt p edge number other x
+      → larger_of other k ≡ k
 
--- no reached structure raises the message
+-- so does the trail, and at its end the condition has the value at this structure at hand
+pub record IsRaisedBy (p : ProgramForm) (mode : Mode) (initial : List StructureForm) (edge number : ℕ)
+    (trail : Trail) (k : K3) (at_hand : StructureForm) : Type 0 where
+  pub leads : LeadsToGreatest p mode initial edge number trail k
+  pub cause : IsCauseAt p edge number k (last_of trail) at_hand
+
+-- the message is No at each reached structure
 abbrev pub IsNeverRaised : ProgramForm → Mode → (initial : List StructureForm) → (edge number : ℕ) → Type 0
 IsNeverRaised p mode initial edge number =
-    (x : Point) → IsReached p mode initial x → ¬ IsRaisedAt p edge number x
+    (x : Point) (k : K3) → IsReached p mode initial x → HasValueAt p edge number k x → k ≡ No
+
+-- the analysis ends: a listing of at most `max` structures has all that is reached, and the steps of these
+-- keep the budgets
+pub record StaysWithin (p : ProgramForm) (mode : Mode) (initial : List StructureForm) (max : ℕ)
+    : Type 0 where
+  pub listing : List (List StructureForm)
+  pub all : (x : Point) → IsReached p mode initial x → IsListed listing x
+  pub few : sum_by length listing ≤ max
+  pub budgets : KeepAllBudgets p (IsReached p mode initial)
 
 -- ---- structures
 

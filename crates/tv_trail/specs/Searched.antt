@@ -5,6 +5,7 @@ use Rattle.tv_listing.specs.ListingForm.{at_node}
 use Rattle.tv_model.specs.Program.{ProgramForm}
 use Rattle.tv_model.specs.declared.program.Edge.{Edge}
 use Rattle.tv_structure_form.specs.StructureForm.{StructureForm}
+use Rattle.tv_step_laws.specs.Budgets.{KeepsBudgets}
 use Rattle.tv_step_laws.specs.Settled.{IsSettled}
 use Rattle.tv_work.specs.Leaving.{LeavesBy}
 use Rattle.tv_work.specs.Reach.{Point, IsListed, Leads}
@@ -16,6 +17,7 @@ use Rattle.tv_trail_laws.specs.declared.trail.Goal.{Goal}
 use Rattle.tv_trail_laws.specs.declared.trail.Origin.TheVariants.{Step}
 use Rattle.tv_trail_laws.specs.declared.trail.Trail.{Trail}
 use Rattle.tv_trail.specs.Aims.{IsGoalAlong}
+use Rattle.tv_trail.specs.Reasons.{StaysWithin}
 use Rattle.tv_trail.specs.declared.search.Met.{Met}
 
 -- what is listed, and what was met, in the order in which it was met
@@ -43,9 +45,10 @@ pub record IsPlaced (listing : List (List StructureForm)) (met : List Met) : Typ
 
 -- ---- what was met
 
--- what is listed was met, and no more was met than is listed
+-- what is listed was met, and what was met is listed; it is as much
 pub record AreListedMet (s : TraceForm) : Type 0 where
   pub met : (x : Point) → IsListed s.listing x → IsMet s.found x
+  pub listed : (x : Point) → IsMet s.found x → IsListed s.listing x
   pub count : length s.found ≡ sum_by length s.listing
 
 -- the new search has met more, and all of that has the property
@@ -83,11 +86,12 @@ abbrev pub IsFollowedAlong : TaskForm → List Found → (edge : ℕ) → Point 
 IsFollowedAlong t found edge x = (taken : Edge) (y : Point) → Leads t.program t.mode edge taken x y
     → IsMet found y
 
--- the point at the place is a goal; else it is none along the edge, and followed along it
+-- the point at the place is a goal; else it is none along the edge, and followed along it within the budgets
 abbrev pub AnswersAlong : TaskForm → Goal → (place edge : ℕ) → List Found → Bool → Type 0
 AnswersAlong t goal place edge found true = (x : Point) × IsAt found place x × IsGoal t.program goal x
 AnswersAlong t goal place edge found false = (x : Point) × IsAt found place x
     × (¬ IsGoalAlong t.program goal edge x) × IsFollowedAlong t found edge x
+    × KeepsBudgets t.program edge x.structure
 
 -- the point at the place is a goal; else it is none, and followed
 abbrev pub AnswersHere : TaskForm → (G : Point → Type 0) → (place : ℕ) → List Found → Bool → Type 0
@@ -101,12 +105,13 @@ AnswersLevel t G from to found (Some place) = (place < to)
 AnswersLevel t G from to found None = (place : ℕ) → from ≤ place → place < to
     → (x : Point) × IsAt found place x × IsPassed t G found x
 
--- the place of a nearest goal; where there is none, no goal is reached
+-- the place of a nearest goal; where there is none, all that is reached was met and passed
 abbrev pub AnswersSearch : TaskForm → (G : Point → Type 0) → List Found → Option ℕ → Type 0
 AnswersSearch t G found (Some place) = IsNearest t G found place
-AnswersSearch t G found None = (x : Point) → reached_in t x → ¬ G x
+AnswersSearch t G found None = (x : Point) → reached_in t x → IsMet found x × IsPassed t G found x
 
--- a shortest trail; where there is none, no goal is reached
+-- a shortest trail; where there is none, no goal is reached, and the analysis ends
 abbrev pub AnswersTrail : TaskForm → (G : Point → Type 0) → Option Trail → Type 0
 AnswersTrail t G (Some trail) = IsShortest t.program t.mode t.initial G trail
-AnswersTrail t G None = (x : Point) → reached_in t x → ¬ G x
+AnswersTrail t G None =
+    ((x : Point) → reached_in t x → ¬ G x) × StaysWithin t.program t.mode t.initial t.max

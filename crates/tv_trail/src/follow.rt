@@ -61,8 +61,8 @@ pub(crate) fn open_all(
     Ok(())
 }
 
-/// Follows the structure at the place along an edge, and tells whether the message of the goal isn't No
-/// there; where it is No, the results are met at the edge's target.
+/// Follows the structure at the place along an edge, and tells whether the message of the goal has its value
+/// there; where it hasn't, the results are met at the edge's target.
 fn follow_along(
     x: &Quest,
     place: usize,

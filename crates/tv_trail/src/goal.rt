@@ -1,24 +1,24 @@
 //! Goals, by what one step tells of them.
 
-ghost use Rattle.std.specs.Prelude.{◌↔◌, IsTrue};
-ghost use Rattle.tv_trail.specs.Aims.{IsRaised, Raises, IsThere};
+ghost use Rattle.std.specs.Prelude.{◌≡◌, ◌↔◌, IsTrue, Some, slice_get};
+ghost use Rattle.tv_trail.specs.Aims.{Raises, IsThere};
 
 use std::cmp::Ordering;
 use tv_kleene::K3;
 use tv_struct::Structure;
 use tv_trail_laws::Goal;
 
-/// Whether the value of that number is there, and isn't No.
-fn is_raised(values: &[K3], number: usize) -> bool
-    ensures { IsTrue result ↔ IsRaised values.now number }
+/// Whether the value of that number is there, and is this one.
+fn has_value(values: &[K3], number: usize, value: K3) -> bool
+    ensures { IsTrue result ↔ (slice_get values.now number ≡ Some value) }
 {
     match values.get(number).copied() {
         None => false,
-        Some(value) => value != K3::No,
+        Some(k) => k == value,
     }
 }
 
-/// Whether the goal is a message of the edge, and its value among these isn't No.
+/// Whether the goal is a message of the edge, and its value among these is that of the goal.
 pub(crate) fn raises(goal: &Goal, edge: u32, values: &[K3]) -> bool
     ensures { IsTrue result ↔ Raises goal.now edge values.now }
 {
@@ -27,7 +27,8 @@ pub(crate) fn raises(goal: &Goal, edge: u32, values: &[K3]) -> bool
         Goal::Message {
             edge: asked,
             number,
-        } => asked == edge && is_raised(values, number as usize),
+            value,
+        } => asked == edge && has_value(values, number as usize, value),
     }
 }
 

@@ -1,8 +1,10 @@
 //! The search for a shortest abstract run: breadth first from the openings of initial structures to a goal.
 #![tactic(auto)]
 
+mod cause;
 mod follow;
 mod goal;
+mod laws;
 mod level;
 mod listed;
 mod quest;
@@ -10,6 +12,7 @@ mod raised;
 mod search;
 mod trail;
 
+pub use laws::trails_lead_to_lines;
 pub use listed::trail_to_listed;
 pub use raised::{Raised, trail_to_message};
 pub use trail::shortest_trail;

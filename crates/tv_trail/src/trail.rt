@@ -10,6 +10,7 @@ ghost use Rattle.tv_work.specs.Explored.{IsTaskCause};
 ghost use Rattle.tv_work.specs.Task.{task_of, IsReady};
 ghost use Rattle.tv_trail.specs.Asked.{goal_of};
 ghost use Rattle.tv_trail.specs.Over.{IsTrailOver};
+ghost use Rattle.tv_trail.specs.Reasons.{StaysWithin};
 ghost use Rattle.tv_trail.specs.Searched.{IsState, AnswersTrail};
 ghost use Rattle.tv_trail_laws.specs.Met.{IsTrailFrom};
 ghost use Rattle.tv_trail_laws.specs.Trails.{IsShortest, IsGoal};
@@ -84,6 +85,8 @@ pub(crate) fn trail_by(
     ensures none { IfOk result (λ found. IfNone found ((y : Point)
         → IsReached (program_of x.now.program.now) x.now.mode x.now.initial.now y
         → ¬ IsGoal (program_of x.now.program.now) goal.now y)) }
+    ensures ends { IfOk result (λ found. IfNone found
+        (StaysWithin (program_of x.now.program.now) x.now.mode x.now.initial.now x.now.max)) }
     ensures over { IfOk result (λ found. IfSome found (IsTrailOver x.now.program.now.vocab)) }
     ensures cause { IfErr result (IsWorkCause (program_of x.now.program.now) x.now.max
         (IsReached (program_of x.now.program.now) x.now.mode x.now.initial.now)) }

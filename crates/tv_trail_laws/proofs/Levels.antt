@@ -108,7 +108,7 @@ module _ (t : TaskForm) (G : Point → Type 0) (found more : List Found) (from d
       by : IsMet found b → IsMet (found ++ more) x
       by (place, at) =
           (passed-at t G (found ++ more) place b (is_at-more found more place b at)
-          (passed place (at-place found place b at))).1 x follows
+          (passed place (at-place found place b at))).followed x follows
 
   next-earlier : (x : Point) (before : List Point) → IsDerivation t.program t.mode t.initial x before
       → length before < depth + 1 → (place : ℕ) × (place < length found) × IsAt (found ++ more) place x
@@ -135,7 +135,7 @@ module _ (t : TaskForm) (G : Point → Type 0) (found : List Found) (from depth 
   none-earlier y before derivation is = by (cases_lt (length before) depth)
     where
       on : (place : ℕ) × (place < from) × IsAt found place y → depth ≤ length before
-      on (place, less, at) = absurd ((passed-at t G found place y at (level.passed place less)).0 is)
+      on (place, less, at) = absurd ((passed-at t G found place y at (level.passed place less)).none is)
 
       by : (length before < depth) ⊎ (depth ≤ length before) → depth ≤ length before
       by (inl less) = on (level.earlier y before derivation less)
@@ -169,12 +169,18 @@ module _ (t : TaskForm) (G : Point → Type 0) (found : List Found) (from depth 
       by : IsMet found b → IsMet found x
       by (place, at) =
           (passed-at t G found place b at
-          (level.passed place (omega (arith, past, at-place found place b at)))).1 x follows
+          (level.passed place (omega (arith, past, at-place found place b at)))).followed x follows
+
+  -- and passed
+  pub level-passed : length found ≤ from → (x : Point) → reached_in t x → IsMet found x × IsPassed t G found x
+  level-passed past x reached = by (all-met past reached.before x reached.derivation)
+    where
+      by : IsMet found x → IsMet found x × IsPassed t G found x
+      by (place, at) = (
+        (place, at),
+        passed-at t G found place x at
+            (level.passed place (omega (arith, past, at-place found place x at))),
+      )
 
   pub level-none : length found ≤ from → (x : Point) → reached_in t x → ¬ G x
-  level-none past x reached is = by (all-met past reached.before x reached.derivation)
-    where
-      by : IsMet found x → ⊥
-      by (place, at) =
-          (passed-at t G found place x at
-          (level.passed place (omega (arith, past, at-place found place x at)))).0 is
+  level-none past x reached = (level-passed past x reached).1.none

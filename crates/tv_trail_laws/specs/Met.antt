@@ -1,8 +1,11 @@
 -- What a breadth-first search has met, and what is known of it level by level.
 use Rattle.std.specs.Prelude.{ℕ, zero, suc, ◌≡◌, ◌<◌, ◌≤◌, List, length, Some, slice_get}
 use Rattle.tv_model.specs.declared.program.Edge.{Edge}
+use Rattle.tv_model.specs.Program.{ProgramForm}
 use Rattle.tv_structure_form.specs.StructureForm.{StructureForm}
+use Rattle.tv_step_laws.specs.Budgets.{KeepsBudgets}
 use Rattle.tv_step_laws.specs.Transfer.{IsOpening}
+use Rattle.tv_work.specs.Leaving.{LeavesBy}
 use Rattle.tv_work.specs.Reach.{Point, Leads, Follows, IsDerivation}
 use Rattle.tv_work.specs.Task.{TaskForm}
 use Rattle.tv_trail_laws.specs.Trails.{IsTrailTo}
@@ -51,9 +54,15 @@ AreOpenedIn t found s = (u : StructureForm) → IsOpening t.program s u
 abbrev pub IsFollowed : TaskForm → List Found → Point → Type 0
 IsFollowed t found x = (y : Point) → Follows t.program t.mode x y → IsMet found y
 
--- the point is no goal, and followed
-abbrev pub IsPassed : TaskForm → (G : Point → Type 0) → List Found → Point → Type 0
-IsPassed t G found x = (¬ G x) × IsFollowed t found x
+-- the step of the point along each edge that leaves its node keeps the budgets
+abbrev pub StepsKeepBudgets : ProgramForm → Point → Type 0
+StepsKeepBudgets p x = (edge : ℕ) → LeavesBy p.edges x.node edge → KeepsBudgets p edge x.structure
+
+-- the point is no goal, and followed within the budgets
+pub record IsPassed (t : TaskForm) (G : Point → Type 0) (found : List Found) (x : Point) : Type 0 where
+  pub none : ¬ G x
+  pub followed : IsFollowed t found x
+  pub budgets : StepsKeepBudgets t.program x
 
 -- so many steps led to what was met at the place
 abbrev pub HasDepth : List Found → (place depth : ℕ) → Type 0

@@ -1,8 +1,7 @@
 -- Abstract runs: the opening of an initial structure, and edge by edge a result of the abstract step (Sagiv,
 -- Reps and Wilhelm 2002, section 6); and which of them lead to a goal in as few steps as any.
-use Rattle.std.specs.Prelude.{ℕ, ◌≡◌, ◌≢◌, ◌≤◌, List, [], ◌∷◌, length, Some, slice_get}
+use Rattle.std.specs.Prelude.{ℕ, ◌≡◌, ◌≤◌, List, [], ◌∷◌, length, Some, slice_get}
 use Rattle.tv_kleene.specs.declared.K3.{K3}
-use Rattle.tv_kleene.specs.declared.K3.TheVariants.{No}
 use Rattle.tv_model.specs.declared.program.Edge.{Edge}
 use Rattle.tv_model.specs.declared.program.Mode.{Mode}
 use Rattle.tv_model.specs.Program.{ProgramForm}
@@ -31,16 +30,14 @@ pub record IsTrailTo (p : ProgramForm) (mode : Mode) (initial : List StructureFo
   pub opens : IsOpening p first trail.opening
   pub leads : LeadOn p mode (record { node = 0; structure = trail.opening }) trail.links x
 
--- the edge leaves the point's node, and the message has there a value that isn't No
-pub record IsRaisedAt (p : ProgramForm) (edge number : ℕ) (x : Point) : Type 0 where
+-- the edge leaves the point's node, and its message of this number has this value there
+pub record HasValueAt (p : ProgramForm) (edge number : ℕ) (k : K3) (x : Point) : Type 0 where
   pub leaves : LeavesBy p.edges x.node edge
-  pub value : K3
-  pub is_value : IsMessageValue p edge x.structure number value
-  pub some : value ≢ No
+  pub is_value : IsMessageValue p edge x.structure number k
 
--- the message isn't No at the point, or the point is that structure at that node, marks aside
+-- the message has that value at the point, or the point is that structure at that node, marks aside
 abbrev pub IsGoal : ProgramForm → Goal → Point → Type 0
-IsGoal p (Message edge number) x = IsRaisedAt p edge number x
+IsGoal p (Message edge number k) x = HasValueAt p edge number k x
 IsGoal p (Structure node s) x = (x.node ≡ node) × (unmarked x.structure ≡ unmarked s.now)
 
 -- the trail leads to a goal, and each derivation of a goal has at least as many steps

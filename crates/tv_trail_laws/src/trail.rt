@@ -1,5 +1,6 @@
 //! Trails, and what they lead to.
 
+use tv_kleene::K3;
 use tv_model::Items;
 use tv_struct::Structure;
 
@@ -25,8 +26,8 @@ pub struct Trail {
 /// Where a trail is to end.
 #[derive(Clone, Copy)]
 pub enum Goal<'a> {
-    /// At a structure for which the message of this number among those of the edge's action isn't No.
-    Message { edge: u32, number: u32 },
+    /// At a structure for which the message of this number among those of the edge's action has this value.
+    Message { edge: u32, number: u32, value: K3 },
     /// At this structure at this node; marks don't count.
     Structure { node: u32, structure: &'a Structure },
 }

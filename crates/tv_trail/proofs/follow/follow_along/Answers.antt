@@ -6,7 +6,7 @@ use Rattle.tv_kleene.specs.declared.K3.{K3}
 use Rattle.tv_model.specs.declared.program.Edge.{Edge}
 use Rattle.tv_model.specs.Program.{program_of}
 use Rattle.tv_step.specs.EngineForm.{EngineForm}
-use Rattle.tv_step_laws.specs.Budgets.{IsStepCause}
+use Rattle.tv_step_laws.specs.Budgets.{IsStepCause, KeepsBudgets}
 use Rattle.tv_step_laws.specs.Settled.{IsSettled}
 use Rattle.tv_step_laws.specs.Transfer.{AreMessageValues, AreResults}
 use Rattle.tv_step_laws.proofs.Shapes.{shaped-over}
@@ -184,4 +184,6 @@ returns-clause-answer c =
       arrived-along t c.args.edge to c.args.place leaves.0 x rs leaves.1 leaves.2 (enters leaves.0 leaves.1)
           results settled old c.requires.kept at c.requires.ready.valid new.found c.in_ok-meet_all.ensures.has
           enters,
+      subst (λ (e : EngineForm). KeepsBudgets (program_of e.program) c.args.edge x.structure) is
+          c.in_ok-out.ensures.step.budgets,
     )

@@ -1,6 +1,6 @@
 use Rattle.std.proofs.Common.{◌+◌, arith, subst}
 use Rattle.tv_trail_laws.specs.Met.{IsFromBelow}
-use Rattle.tv_trail_laws.proofs.Levels.{level-none}
+use Rattle.tv_trail_laws.proofs.Levels.{level-passed}
 use Rattle.tv_work.specs.Task.{task_of}
 use Rattle.tv_trail.specs.Asked.{goal_of}
 use Rattle.tv_trail.specs.Searched.{AnswersLevel}
@@ -56,5 +56,5 @@ returns-in-Some-clause-answer c =
 pub returns-clause-answer : goal.returns-clause-answer
 returns-clause-answer c =
     let level = c.loop-from.invariant.level
-    in level-none (task_of c.args.x.now.task) (goal_of c.args.x.now) c.loop-from.search.found c.loop-from.from level.0
+    in level-passed (task_of c.args.x.now.task) (goal_of c.args.x.now) c.loop-from.search.found c.loop-from.from level.0
     level.1 (omega (arith, c.len.ensures, c.loop-from-test.false))

@@ -4,6 +4,7 @@ use Rattle.tv_trail_laws.proofs.Walking.{nearest-shortest}
 use Rattle.tv_work.specs.Task.{task_of}
 use Rattle.tv_trail.specs.Asked.{goal_of}
 use Rattle.tv_trail.specs.Searched.{TraceForm, IsState, AnswersSearch}
+use Rattle.tv_trail.proofs.Answering.{all-passed}
 use Rattle.tv_trail.proofs.Kept.{state-none}
 use Rattle.tv_trail.proofs.Levelling.{openings-level}
 use Rattle.tv_trail.proofs.trail.search_for.Goals as goal
@@ -29,8 +30,10 @@ trail_to-requires-clause-place c =
 
 pub returns-in-None-clause-answer : goal.returns-in-None-clause-answer
 returns-in-None-clause-answer c =
-    subst (AnswersSearch (task_of c.args.x.now.task) (goal_of c.args.x.now) c.find.new.search.found) c.in-None.is
-    c.in_ok-find.ensures.answer
+    let t = task_of c.args.x.now.task
+    in let G = goal_of c.args.x.now
+    in all-passed t G c.find.new.search c.in_ok-find.ensures.kept
+    (subst (AnswersSearch t G c.find.new.search.found) c.in-None.is c.in_ok-find.ensures.answer)
 
 pub returns-clause-answer : goal.returns-clause-answer
 returns-clause-answer c =

@@ -8,7 +8,8 @@ use Rattle.tv_work.specs.Reach.{Point, IsReached}
 use Rattle.tv_work.specs.Task.{TaskForm}
 use Rattle.tv_trail_laws.specs.Trails.{IsShortest, IsGoal}
 use Rattle.tv_trail.specs.Searched.{AnswersTrail}
-use Rattle.tv_trail.proofs.Answering.{shortest-some, goal-none}
+use Rattle.tv_trail.specs.Reasons.{StaysWithin}
+use Rattle.tv_trail.proofs.Answering.{shortest-some, goal-ends, goal-none}
 use Rattle.tv_trail.proofs.trail.trail_by.Goals as goal
 
 pub returns-clause-some : goal.returns-clause-some
@@ -32,6 +33,17 @@ returns-clause-none c =
     → IsReached p c.args.x.now.mode ss x → ¬ G x))) c.as_slice.ensures
     (IfOk-weaker c.search_for.result (AnswersTrail t G) (λ found. IfNone found ((x : Point)
     → IsReached p c.args.x.now.mode initial x → ¬ G x)) (goal-none t G) c.search_for.ensures.answer)
+
+pub returns-clause-ends : goal.returns-clause-ends
+returns-clause-ends c =
+    let p = program_of c.args.x.now.program.now
+    in let G : Point → Type 0 = IsGoal p c.args.goal.now
+    in let initial = c.as_slice.result.now
+    in let t : TaskForm = record { program = p; mode = c.args.x.now.mode; initial = initial; max = c.args.x.now.max }
+    in subst (λ (ss : List StructureForm). IfOk c.search_for.result (λ found. IfNone found (StaysWithin p
+    c.args.x.now.mode ss c.args.x.now.max))) c.as_slice.ensures
+    (IfOk-weaker c.search_for.result (AnswersTrail t G) (λ found. IfNone found (StaysWithin p c.args.x.now.mode
+    initial c.args.x.now.max)) (goal-ends t G) c.search_for.ensures.answer)
 
 pub returns-clause-cause : goal.returns-clause-cause
 returns-clause-cause c =

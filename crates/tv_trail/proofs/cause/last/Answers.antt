@@ -2,7 +2,7 @@ use Rattle.std.proofs.Common.{ap, arith, ◌∙◌}
 use Rattle.tv_trail_laws.specs.declared.trail.Link.{Link}
 use Rattle.tv_trail.specs.Reasons.{last_from}
 use Rattle.tv_trail.proofs.Ends.{last-at}
-use Rattle.tv_trail.proofs.raised.last.Goals as goal
+use Rattle.tv_trail.proofs.cause.last.Goals as goal
 
 pub returns-in-len1-up : goal.returns-in-len1-up
 returns-in-len1-up c =
