@@ -259,7 +259,7 @@ test("the chain of docs/TUTORIAL.md is read, and written back byte for byte", ()
   const written = steps.map(({ title, structure, message }) => title + (message
     ? `  message ${message.number} is ${Kleene.text(message.value)}: "${message.text}"` : `  ${Line.write(structure, census.ordered)}`));
   return [[kind, steps.length, written.join("\n") + "\n", steps[3].edge, steps[4].structure.size],
-    ["chain", 8, text, { number: 2, file: "pairs.tvp", line: 28, source: "L3", target: "L4", call: "y_is_y_n()",
+    ["chain", 9, text, { number: 2, file: "pairs.tvp", line: 28, source: "L3", target: "L4", call: "y_is_y_n()",
       text: "pairs.tvp:28  L3 y_is_y_n ( ) L4" }, 3]];
 });
 test("the edges of docs/TUTORIAL.md are read", () => {

@@ -89,7 +89,7 @@ const TESTS = {
     const found = [await at(), await call("count", "#film li[aria-current] .cell"), await call("count", "#film li[aria-current] .maybe")];
     for (const key of ["ArrowRight", "ArrowRight", "ArrowLeft", "ArrowRight", "ArrowRight", "ArrowRight", "ArrowRight", "ArrowRight", "ArrowRight", "ArrowRight"]) await call("press", key, "#film");
     return [[...found, await at(), await texts("#film .empty"), await texts("#notice")],
-      ["Step 0 of 7", 3, 2, "Step 7 of 7", ["“null dereference of y” is true of this structure"], [""]]];
+      ["Step 0 of 8", 3, 2, "Step 8 of 8", ["“null dereference of y” is true of this structure"], [""]]];
   },
   "a bad chain is refused with line and column": async () => {
     await call("forget");
