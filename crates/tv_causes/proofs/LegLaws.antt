@@ -1,11 +1,10 @@
 -- The steps of a trail, one after the other.
 use Rattle.std.proofs.Common.{ℕ, zero, suc, ◌≡◌, ◌<◌, ◌∙◌, ◌+◌, List, [], ◌∷◌, ◌++◌, Some, None, Option}
-use Rattle.std.proofs.Common.{add-one, ap, append-nil, append_assoc, arith, get_or, length, subst, sym, take}
+use Rattle.std.proofs.Common.{add-one, ap, append-nil, append_assoc, arith, length, refl, subst, sym, take}
 use Rattle.std.specs.List.{AllZip}
 use Rattle.std.specs.Prelude.{All, Any, Contains, option_map, slice_get}
-use Rattle.std.proofs.Math.Seq.{take-suc}
-use Rattle.std.proofs.lemmas.List.Elements.{All-contains}
-use Rattle.std.proofs.lemmas.Option.{same_Some}
+use Rattle.std.proofs.lemmas.List.Elements.{All-cons, All-contains, All-head, All-nil, All-tail}
+use Rattle.std.proofs.lemmas.Option.{same_Some, slice_get_within}
 use Rattle.tv_lemmas.proofs.Zips.{zip_push}
 use Rattle.tv_model.specs.Program.{ProgramForm, program_of}
 use Rattle.tv_model.specs.declared.program.Program.{Program}
@@ -15,9 +14,18 @@ use Rattle.tv_step.specs.EngineForm.{EngineForm}
 use Rattle.tv_step_laws.specs.Budgets.{IsStepCause}
 use Rattle.tv_struct.specs.declared.analysis.StageError.{StageError}
 use Rattle.tv_struct.specs.declared.analysis.StageError.TheVariants.{Splits, Individuals, Memory}
-use Rattle.tv_structure_form.specs.StructureForm.{StructureForm}
+use Rattle.tv_model.specs.declared.program.Mode.{Mode}
+use Rattle.tv_structure_form.specs.StructureForm.{IsOver, IsStructure, StructureForm}
+use Rattle.tv_trail.specs.Over.{IsTrailOver}
+use Rattle.tv_trail.proofs.Ends.{link-reached, opening-reached}
+use Rattle.tv_trail_laws.specs.Trails.{IsTrailTo, LeadOn}
+use Rattle.tv_trail_laws.specs.declared.trail.Trail.{Trail}
+use Rattle.tv_work.specs.Analyzed.{IsWorkCause, work_error}
+use Rattle.tv_work.specs.Reach.{IsReached, Point}
+use Rattle.tv_work.proofs.Causes.{step-cause}
 use Rattle.tv_trail_laws.specs.declared.trail.Link.{Link}
-use Rattle.tv_causes.specs.Legs.{GoesOnWithLegs, IsLegStep, IsLegsCause, Leg, leg_at, leg_lines, legs_from, legs_text}
+use Rattle.tv_causes.specs.Legs.{GoesOnWithLegs, IsLegOver, IsLegReached, IsLegStep, IsLegsCause, IsSomeTrail}
+use Rattle.tv_causes.specs.Legs.{Leg, leg_at, leg_lines, legs_from, legs_of, legs_text}
 
 -- ---- which leg stands where
 
@@ -96,3 +104,70 @@ leg-stops p legs i leg Memory at cause = tt
 pub leg-such : (P : Leg → Type 0) (legs : List Leg) (i : ℕ) (leg : Leg) → All P legs
     → slice_get legs i ≡ Some leg → P leg
 leg-such P legs i leg all at = All-contains P legs leg all (slice_get-contains legs i leg at)
+
+-- ---- the steps of a trail that an analysis has
+
+module _ (p : ProgramForm) (mode : Mode) (initial : List StructureForm) where
+  legs-reached : (x : Point) (links : List Link) (y : Point) → IsReached p mode initial x → LeadOn p mode x links y
+      → All (IsLegReached p mode initial) (legs_from x.structure links)
+  legs-reached x [] y reached e = All-nil (IsLegReached p mode initial)
+  legs-reached x (link ∷ links) y reached (taken, leads, rest) =
+      All-cons (IsLegReached p mode initial) (leg_at x.structure link) (legs_from link.structure links)
+      (record {
+        at = x;
+        source = record { taken = taken; is_edge = leads.is_edge; leaves = leads.leaves; has = reached };
+        before = refl;
+      })
+      (legs-reached (record { node = taken.to; structure = link.structure }) links y
+      (link-reached p mode initial x link taken reached leads) rest)
+
+  -- each is of a reached structure
+  pub trail-legs : (trail : Trail) (y : Point) → IsTrailTo p mode initial trail y
+      → All (IsLegReached p mode initial) (legs_of trail)
+  trail-legs trail y is =
+      legs-reached (record { node = 0; structure = trail.opening }) trail.links y
+      (opening-reached p mode initial trail y is) is.leads
+
+  -- so where one isn't told the analysis meets the budget
+  pub legs-cause : (max : ℕ) (legs : List Leg) (fault : StageError) → All (IsLegReached p mode initial) legs
+      → IsLegsCause p legs fault → IsWorkCause p max (IsReached p mode initial) (work_error fault)
+  legs-cause max legs fault all cause = by fault cause
+    where
+      one : (e : StageError) → Any (λ leg. IsStepCause p leg.link.edge leg.before e) legs
+          → IsWorkCause p max (IsReached p mode initial) (work_error e)
+      one e (k, leg, within, at, stops) =
+          let leg_is = All-contains (IsLegReached p mode initial) legs leg all (k, within, at) in
+          step-cause p max leg.link.edge (IsReached p mode initial) leg_is.at leg_is.source e
+          (subst (λ s. IsStepCause p leg.link.edge s e) (sym leg_is.before) stops)
+
+      by : (e : StageError) → IsLegsCause p legs e → IsWorkCause p max (IsReached p mode initial) (work_error e)
+      by Splits h = one Splits h
+      by Individuals h = one Individuals h
+      by Memory h = tt
+
+-- each is over the program's vocabulary, and has one of its edges
+module _ (program : Program) (mode : Mode) where
+  links-over : (x : Point) (links : List Link) (y : Point) → IsOver program.vocab x.structure
+      → LeadOn (program_of program) mode x links y
+      → All (λ link. IsStructure link.structure × IsOver program.vocab link.structure) links
+      → All (IsLegOver program) (legs_from x.structure links)
+  links-over x [] y over e all = All-nil (IsLegOver program)
+  links-over x (link ∷ links) y over (taken, leads, rest) all =
+      let after : IsOver program.vocab link.structure = (All-head Link-over link links all).1 in
+      All-cons (IsLegOver program) (leg_at x.structure link) (legs_from link.structure links)
+      (record {
+        edge = slice_get_within program.edges link.edge taken leads.is_edge;
+        before = over;
+        after = after;
+      })
+      (links-over (record { node = taken.to; structure = link.structure }) links y after rest
+      (All-tail Link-over link links all))
+    where
+      Link-over : Link → Type 0
+      Link-over l = IsStructure l.structure × IsOver program.vocab l.structure
+
+  pub legs-over : (trail : Trail) → IsTrailOver program.vocab trail → IsSomeTrail (program_of program) mode trail
+      → All (IsLegOver program) (legs_of trail)
+  legs-over trail over some =
+      links-over (record { node = 0; structure = trail.opening }) trail.links some.last over.opening.1 some.is.leads
+      over.links

@@ -12,8 +12,11 @@ use Rattle.tv_step_laws.specs.Budgets.{IsStepCause}
 use Rattle.tv_struct.specs.declared.analysis.StageError.{StageError}
 use Rattle.tv_struct.specs.declared.analysis.StageError.TheVariants.{Splits, Individuals, Memory}
 use Rattle.tv_structure_form.specs.StructureForm.{IsOver, StructureForm}
+use Rattle.tv_trail_laws.specs.Trails.{IsTrailTo}
 use Rattle.tv_trail_laws.specs.declared.trail.Link.{Link}
 use Rattle.tv_trail_laws.specs.declared.trail.Trail.{Trail}
+use Rattle.tv_work.specs.Analyzed.{IsAtSource}
+use Rattle.tv_work.specs.Reach.{IsReached, Point}
 use Rattle.tv_causes.specs.Texts.{each_of, updated_lines}
 
 -- a step of a trail: the structure before it, and the link that it makes
@@ -56,6 +59,12 @@ abbrev pub IsCausedText : Program → Mode → (heads : List (List ℕ)) → Tra
 IsCausedText program mode heads trail text = GoesOnWithLegs (record { program = program; mode = mode }) heads
     (legs_of trail) (opening_line program.vocab trail.initial trail.opening) text
 
+-- the trail is one of an analysis of some initial structures
+pub record IsSomeTrail (p : ProgramForm) (mode : Mode) (trail : Trail) : Type 0 where
+  pub initial : List StructureForm
+  pub last : Point
+  pub is : IsTrailTo p mode initial trail last
+
 -- ---- what a leg has to be
 
 -- its edge is one of the program's, and its structures are over the vocabulary
@@ -63,6 +72,13 @@ pub record IsLegOver (program : Program) (leg : Leg) : Type 0 where
   pub edge : leg.link.edge < length program.edges
   pub before : IsOver program.vocab leg.before
   pub after : IsOver program.vocab leg.link.structure
+
+-- the structure before it is reached where its edge leaves
+pub record IsLegReached (p : ProgramForm) (mode : Mode) (initial : List StructureForm) (leg : Leg) : Type 0
+  where
+    pub at : Point
+    pub source : IsAtSource p leg.link.edge (IsReached p mode initial) at
+    pub before : at.structure ≡ leg.before
 
 -- a step of the trail meets that budget
 abbrev pub IsLegsCause : ProgramForm → List Leg → StageError → Type 0

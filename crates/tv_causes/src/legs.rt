@@ -1,14 +1,19 @@
 //! A trail with what became unknown at each of its steps.
 
-ghost use Rattle.std.specs.Prelude.{◌≡◌, ◌<◌, ◌++◌, All, IfErr, IfOk, OnOk, Some, length, slice_get};
-ghost use Rattle.tv_causes.specs.Legs.{GoesOnWithLegs, IsCausedText, IsLegOver, IsLegsCause, IsLegStep};
+ghost use Rattle.std.specs.Prelude.{ℕ, ◌≡◌, ◌<◌, ◌++◌, All, IfErr, IfOk, List, OnOk, Some};
+ghost use Rattle.std.specs.Prelude.{length, slice_get};
+ghost use Rattle.tv_causes.specs.Legs.{GoesOnWithLegs, IsCausedText, IsLegOver, IsLegsCause, IsLegStep, IsSomeTrail};
 ghost use Rattle.tv_causes.specs.Legs.{leg_at, leg_lines, legs_of};
 ghost use Rattle.tv_model.specs.Program.{program_of};
 ghost use Rattle.tv_model.specs.Valid.{IsValid};
 ghost use Rattle.tv_stages_laws.specs.declared.record.SlowStep.{SlowStep};
 ghost use Rattle.tv_step_laws.specs.Budgets.{IsStepCause};
-ghost use Rattle.tv_structure_form.specs.StructureForm.{IsOver};
+ghost use Rattle.tv_structure_form.specs.StructureForm.{StructureForm};
+ghost use Rattle.tv_trail.specs.Over.{IsTrailOver};
+ghost use Rattle.tv_trail_laws.specs.Trails.{IsTrailTo};
 ghost use Rattle.tv_trail_laws.specs.declared.trail.Link.{Link};
+ghost use Rattle.tv_work.specs.Analyzed.{IsWorkCause, work_error};
+ghost use Rattle.tv_work.specs.Reach.{IsReached, Point};
 
 use crate::ways::{Aim, append_updates};
 use std::alloc::Global;
@@ -96,7 +101,7 @@ fn append_legs(
 /// comes to the link's structure.
 ///
 /// # Errors
-/// `Splits` and `Individuals` only where a step of the trail meets that budget. Or memory ran out.
+/// `Splits` and `Individuals` only where the step of a reached structure meets that budget. Or memory ran out.
 pub fn caused_text(
     alloc: Global,
     program: &Program,
@@ -105,10 +110,13 @@ pub fn caused_text(
     trail: &Trail,
 ) -> Result<Vec<u8>, StageError>
     requires valid { IsValid (program_of program.now) }
-    requires opening { IsOver program.now.vocab trail.now.opening }
-    requires over { All (IsLegOver program.now) (legs_of trail.now) }
+    requires over { IsTrailOver program.now.vocab trail.now }
+    requires trail { IsSomeTrail (program_of program.now) mode trail.now }
     ensures found { IfOk result (λ text. IsCausedText program.now mode heads.now trail.now text.items) }
-    ensures cause { IfErr result (IsLegsCause (program_of program.now) (legs_of trail.now)) }
+    ensures cause { (initial : List StructureForm) (last : Point) (max : ℕ)
+        → IsTrailTo (program_of program.now) mode initial trail.now last
+        → IfErr result (λ fault. IsWorkCause (program_of program.now) max
+        (IsReached (program_of program.now) mode initial) (work_error fault)) }
 {
     let mut stager = Stager::new(alloc, program, mode)?;
     let mut out = Vec::new(alloc);

@@ -6,6 +6,7 @@ use Rattle.std.specs.Prelude.{All, Any, IfNone, Option, slice_get}
 use Rattle.tv_kleene.specs.declared.K3.{K3}
 use Rattle.tv_listing.specs.ListingForm.{at_node}
 use Rattle.tv_listing.specs.declared.analysis.MessageLine.{MessageLine}
+use Rattle.tv_model.specs.declared.program.Edge.{Edge}
 use Rattle.tv_model.specs.declared.program.Mode.{Mode}
 use Rattle.tv_model.specs.declared.program.Vocab.{Vocab}
 use Rattle.tv_model.specs.Program.{ProgramForm}
@@ -20,7 +21,7 @@ use Rattle.tv_trail_laws.specs.declared.trail.Link.{Link}
 use Rattle.tv_trail_laws.specs.declared.trail.Trail.{Trail}
 use Rattle.tv_work.specs.Analyzed.{IsAnalysis, IsWorkCause, work_error}
 use Rattle.tv_work.proofs.Causes.{step-cause}
-use Rattle.tv_work.specs.Reach.{Point, IsReached, IsStartPoint}
+use Rattle.tv_work.specs.Reach.{Point, IsReached, IsStartPoint, Leads}
 use Rattle.tv_trail.specs.Reasons.{last_from, last_of}
 
 -- ---- the last structure
@@ -57,30 +58,39 @@ module _ (p : ProgramForm) (mode : Mode) (initial : List StructureForm) where
   pub trail-last : (trail : Trail) (y : Point) → IsTrailTo p mode initial trail y → last_of trail ≡ y.structure
   trail-last trail y is = last-is (record { node = 0; structure = trail.opening }) trail.links y is.leads
 
-  -- and it is reached
-  reached-on : (x : Point) (links : List Link) (y : Point) → IsReached p mode initial x → LeadOn p mode x links y
-      → IsReached p mode initial y
-  reached-on x [] y reached e = subst (IsReached p mode initial) e reached
-  reached-on x (link ∷ links) y reached (taken, leads, rest) =
-      reached-on (record { node = taken.to; structure = link.structure }) links y (record {
-        before = x ∷ reached.before;
-        derivation = ((link.edge, taken, leads), reached.derivation);
-      }) rest
-
-  pub trail-reached : (trail : Trail) (y : Point) → IsTrailTo p mode initial trail y → IsReached p mode initial y
-  trail-reached trail y is = reached-on (record { node = 0; structure = trail.opening }) trail.links y start is.leads
+  -- where a trail opens is reached
+  pub opening-reached : (trail : Trail) (y : Point) → IsTrailTo p mode initial trail y
+      → IsReached p mode initial (record { node = 0; structure = trail.opening })
+  opening-reached trail y is = record {
+    before = [];
+    derivation = record {
+      node = refl;
+      opens = opened (slice_get-contains initial trail.initial is.first is.is_first);
+    };
+  }
     where
       opened : Contains initial is.first → Any (λ s. IsOpening p s trail.opening) initial
       opened (k, within, at) = (k, is.first, within, at, is.opens)
 
-      start : IsReached p mode initial (record { node = 0; structure = trail.opening })
-      start = record {
-        before = [];
-        derivation = record {
-          node = refl;
-          opens = opened (slice_get-contains initial trail.initial is.first is.is_first);
-        };
-      }
+  -- so is where a link leads
+  pub link-reached : (x : Point) (link : Link) (taken : Edge) → IsReached p mode initial x
+      → Leads p mode link.edge taken x (record { node = taken.to; structure = link.structure })
+      → IsReached p mode initial (record { node = taken.to; structure = link.structure })
+  link-reached x link taken reached leads = record {
+    before = x ∷ reached.before;
+    derivation = ((link.edge, taken, leads), reached.derivation);
+  }
+
+  reached-on : (x : Point) (links : List Link) (y : Point) → IsReached p mode initial x → LeadOn p mode x links y
+      → IsReached p mode initial y
+  reached-on x [] y reached e = subst (IsReached p mode initial) e reached
+  reached-on x (link ∷ links) y reached (taken, leads, rest) =
+      reached-on (record { node = taken.to; structure = link.structure }) links y
+      (link-reached x link taken reached leads) rest
+
+  pub trail-reached : (trail : Trail) (y : Point) → IsTrailTo p mode initial trail y → IsReached p mode initial y
+  trail-reached trail y is =
+      reached-on (record { node = 0; structure = trail.opening }) trail.links y (opening-reached trail y is) is.leads
 
   module _ (edge number : ℕ) (trail : Trail) (k : K3)
       (shortest : IsShortest p mode initial (HasValueAt p edge number k) trail) where

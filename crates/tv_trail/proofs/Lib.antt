@@ -2,7 +2,7 @@ mod Adding
 mod Aiming
 mod Answering
 mod Causing
-mod Ends
+pub mod Ends
 mod Following
 mod Greatest
 mod Kept
