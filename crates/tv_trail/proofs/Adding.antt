@@ -80,7 +80,7 @@ module _ (listing : List (List StructureForm)) (met : List Met) (placed : IsPlac
       pub met-listed : AreListedMet after
       met-listed = record {
         met = λ x has. by x (listed-cases listing node s is-node x has);
-        listed = λ x (place, origin, e).
+        listed = λ x (place, (origin, e)).
             stands x origin place
             (at-cases (trace listing met).found (one ∷ []) place (record { point = x; origin = origin })
             (subst (λ l. slice_get l place ≡ Some (record { point = x; origin = origin })) found-after e));

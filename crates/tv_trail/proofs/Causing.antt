@@ -1,7 +1,7 @@
 -- A message that isn't No has its value at a structure at hand.
 use Rattle.std.proofs.Common.{ℕ, ◌≡◌, ◌≢◌, ◌⊎◌, inl, inr, List, [], ◌∷◌, None, Some, refl, sym, ap, ◌∙◌, map}
-use Rattle.std.proofs.Common.{Option}
-use Rattle.std.specs.Prelude.{All, Contains, IfNone, IfSome, option_map, slice_get, unwrap_or}
+use Rattle.std.proofs.Common.{Bool, true, false, true≢false, Option}
+use Rattle.std.specs.Prelude.{All, Contains, IfNone, IfSome, MatchBool, option_map, slice_get, unwrap_or}
 use Rattle.std.proofs.lemmas.List.Elements.{All-contains, All-head, All-tail}
 use Rattle.std.proofs.lemmas.Option.{same_Some, slice_get-map}
 use Rattle.tv_eval.specs.AssignmentForm.{assignment_of, individual_for}
@@ -37,16 +37,22 @@ larger-one Half Half = inl refl
 larger-one Half Yes = inr refl
 larger-one Yes b = inl refl
 
+pub told-unequal : (x y : K3) (b : Bool) → MatchBool b (x ≡ y) (x ≢ y) → b ≡ false → x ≢ y
+told-unequal x y true same e = absurd (true≢false e)
+told-unequal x y false same e = same
+
 -- where it has the value at none, it isn't the value
 none-has : (m : MessageForm) (k : K3) → k ≢ No → (ts : List StructureForm)
     → All (λ t. ¬ IsConditionValue m t k) ts → message_value ts m ≢ k
 none-has m k some [] all e = some (sym e)
-none-has m k some (t ∷ ts) all e = by (larger-one (value (structure_of t) blank m.cond) (message_value ts m))
+none-has m k some (t ∷ ts) all e =
+    by (none-has m k some ts (All-tail (λ u. ¬ IsConditionValue m u k) t ts all))
+    (larger-one (value (structure_of t) blank m.cond) (message_value ts m))
   where
-    by : (message_value (t ∷ ts) m ≡ value (structure_of t) blank m.cond)
+    by : message_value ts m ≢ k → (message_value (t ∷ ts) m ≡ value (structure_of t) blank m.cond)
         ⊎ (message_value (t ∷ ts) m ≡ message_value ts m) → ⊥
-    by (inl is) = All-head (λ u. ¬ IsConditionValue m u k) t ts all (sym is ∙ e)
-    by (inr is) = none-has m k some ts (All-tail (λ u. ¬ IsConditionValue m u k) t ts all) (sym is ∙ e)
+    by behind (inl is) = All-head (λ u. ¬ IsConditionValue m u k) t ts all (sym is ∙ e)
+    by behind (inr is) = behind (sym is ∙ e)
 
 -- why focus fails is why the step does
 pub focus-cause : (p : ProgramForm) (edge : ℕ) (action : ActionForm) → IsActionOf p edge action

@@ -21,7 +21,7 @@ use Rattle.tv_trail_laws.specs.declared.trail.Link.{Link}
 use Rattle.tv_trail_laws.specs.declared.trail.Trail.{Trail}
 use Rattle.tv_work.specs.Analyzed.{IsAnalysis, IsWorkCause, work_error}
 use Rattle.tv_work.proofs.Causes.{step-cause}
-use Rattle.tv_work.specs.Reach.{Point, IsReached, IsStartPoint, Leads}
+use Rattle.tv_work.specs.Reach.{Point, IsReached, Leads}
 use Rattle.tv_trail.specs.Reasons.{last_from, last_of}
 
 -- ---- the last structure

@@ -42,7 +42,8 @@ module _ (t : TaskForm) (goal : Goal) (found : List Found) (place : ℕ) (x : Po
       by (All-contains (λ e. AnswersAlong t goal place e found false) edges edge all (leaving edge leaves))
     where
       by : AnswersAlong t goal place edge found false → IsDoneAlong edge x
-      by (y, there, done) = subst (IsDoneAlong edge) (at-once found place y x there at) done
+      by (y, there, none, follows, budgets) =
+          subst (IsDoneAlong edge) (at-once found place y x there at) (none, follows, budgets)
 
   no-goal : ¬ IsGoal t.program goal x
   no-goal is = by (goal-cases t.program goal x is)

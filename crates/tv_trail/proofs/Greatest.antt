@@ -1,17 +1,14 @@
 -- Trails to the greatest value of a message, by what two searches find.
-use Rattle.std.proofs.Common.{ℕ, ◌≡◌, ◌≢◌, List, refl, sym, subst}
-use Rattle.std.specs.Prelude.{Contains, Some, slice_get}
+use Rattle.std.proofs.Common.{ℕ, ◌≡◌, List, refl}
 use Rattle.tv_kleene.specs.declared.K3.{K3}
 use Rattle.tv_kleene.specs.declared.K3.TheVariants.{No, Half, Yes}
 use Rattle.tv_kleene.specs.Kleene.{larger_of}
-use Rattle.tv_listing.specs.declared.analysis.MessageLine.{MessageLine}
 use Rattle.tv_model.specs.Program.{ProgramForm}
 use Rattle.tv_model.specs.declared.program.Mode.{Mode}
-use Rattle.tv_step_laws.specs.Transfer.{IsMessageValue}
 use Rattle.tv_structure_form.specs.StructureForm.{StructureForm}
 use Rattle.tv_trail_laws.specs.Trails.{HasValueAt, IsShortest}
 use Rattle.tv_trail_laws.specs.declared.trail.Trail.{Trail}
-use Rattle.tv_work.specs.Analyzed.{IsAnalysis, IsSaid}
+use Rattle.tv_work.specs.Analyzed.{IsSaid}
 use Rattle.tv_work.specs.Reach.{Point, IsReached}
 use Rattle.tv_trail.specs.Laws.{TrailsLeadToLines}
 use Rattle.tv_trail.specs.Reasons.{IsNeverRaised, LeadsToGreatest}

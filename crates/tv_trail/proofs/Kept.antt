@@ -170,7 +170,7 @@ state-none t = record {
   within = omega arith;
   listed = record {
     met = λ x has. absurd (nothing-listed (length t.program.nodes) x has);
-    listed = λ x (place, origin, e). absurd (cc e);
+    listed = λ x (place, (origin, e)). absurd (cc e);
     count = sym (listed-none (length t.program.nodes));
   };
   traced = λ place f e. absurd (cc e);

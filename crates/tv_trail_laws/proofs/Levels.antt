@@ -1,6 +1,6 @@
 -- Breadth first: level by level all is met that so many steps reach, so the first goal is a nearest one.
-use Rattle.std.proofs.Common.{ℕ, zero, suc, ◌≡◌, ◌<◌, ◌≤◌, ◌+◌, ◌⊎◌, inl, inr, List, [], ◌∷◌, ◌++◌, length}
-use Rattle.std.proofs.Common.{Some, refl, sym, ap, subst, ◌∙◌, arith}
+use Rattle.std.proofs.Common.{ℕ, suc, ◌≡◌, ◌<◌, ◌≤◌, ◌+◌, ◌⊎◌, inl, inr, List, [], ◌∷◌, ◌++◌, length}
+use Rattle.std.proofs.Common.{Some, sym, ap, subst, ◌∙◌, arith}
 use Rattle.std.specs.Prelude.{All, Any, Contains, slice_get}
 use Rattle.std.proofs.lemmas.Bool.{cases_lt}
 use Rattle.std.proofs.lemmas.List.Elements.{All-contains}
@@ -8,9 +8,9 @@ use Rattle.std.proofs.lemmas.Option.{slice_get-get_or}
 use Rattle.tv_lemmas.proofs.Lists.{some_at}
 use Rattle.tv_structure_form.specs.StructureForm.{StructureForm}
 use Rattle.tv_step_laws.specs.Transfer.{IsOpening}
-use Rattle.tv_work.specs.Reach.{Point, IsDerivation, IsStartPoint, Follows}
+use Rattle.tv_work.specs.Reach.{Point, IsDerivation, IsStartPoint}
 use Rattle.tv_work.specs.Task.{TaskForm, reached_in}
-use Rattle.tv_trail_laws.specs.Met.{Found, IsAt, IsMet, IsFirst, IsFromBelow, AreOpenedIn, IsFollowed}
+use Rattle.tv_trail_laws.specs.Met.{Found, IsAt, IsMet, IsFirst, IsFromBelow, AreOpenedIn}
 use Rattle.tv_trail_laws.specs.Met.{IsPassed}
 use Rattle.tv_trail_laws.specs.Met.{HasDepth, IsLevel, IsNearest}
 use Rattle.tv_trail_laws.proofs.Places.{at-cases, at-once, at-place, is_at-more, met-more}

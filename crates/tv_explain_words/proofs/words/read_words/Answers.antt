@@ -9,38 +9,38 @@ use Rattle.tv_explain_words.proofs.words.read_words.Goals as goal
 pub returns-in_default-2-clause-none : goal.returns-in_default-2-clause-none
 returns-in_default-2-clause-none c =
     let behind = words_of c.in-Some.behind.now in
-    let rest = words_of c.option_of.result.1.now in
+    let rest = words_of c.option_of-unknown.result.1.now in
     let reads = c.in_ok-matches.ensures (codes "tvla") line_flags line_settings refl c.in_ok-command_line.ensures in
     none_without_line _ (words_of c.args.words.now) behind (ap words_of c.in-Some.ensures.cases.0)
-    c.option_of.result.0 rest c.option_of.ensures.words c.option_of.ensures.first
+    c.option_of-unknown.result.0 rest c.option_of-unknown.ensures.words c.option_of-unknown.ensures.first
     (subst (Reads line_flags line_settings rest) c.in_default-2.is reads)
 
 pub returns-clause-some : goal.returns-clause-some
 returns-clause-some c =
     let behind = words_of c.in-Some.behind.now in
-    let rest = words_of c.option_of.result.1.now in
+    let rest = words_of c.option_of-unknown.result.1.now in
     let name = c.as_str.result.now in
     let whole : words_of c.args.words.now ≡ name ∷ behind =
     ap words_of c.in-Some.ensures.cases.0 ∙ ap (λ n. n ∷ behind) (sym c.as_str.ensures.value) in
     let reads = c.in_ok-matches.ensures (codes "tvla") line_flags line_settings refl c.in_ok-command_line.ensures in
     let line : HasLine line_flags line_settings rest c.in-Some-2.matches =
     subst (Reads line_flags line_settings rest) c.in-Some-2.is reads in
-    spelled name (words_of c.args.words.now) behind whole c.option_of.result.0 rest c.option_of.ensures.words
-    c.option_of.ensures.first c.in-Some-2.matches line c.said.result
-    (subst (λ (l : LineForm). IfOk c.said.result (λ found. IfSome found (λ command. IsSaid name c.option_of.result.0 l
+    spelled name (words_of c.args.words.now) behind whole c.option_of-unknown.result.0 rest c.option_of-unknown.ensures.words
+    c.option_of-unknown.ensures.first c.in-Some-2.matches line c.said.result
+    (subst (λ (l : LineForm). IfOk c.said.result (λ found. IfSome found (λ command. IsSaid name c.option_of-unknown.result.0 l
     (form_of command)))) c.told_line.ensures c.said.ensures.some)
 
 pub returns-clause-none : goal.returns-clause-none
 returns-clause-none c =
     let behind = words_of c.in-Some.behind.now in
-    let rest = words_of c.option_of.result.1.now in
+    let rest = words_of c.option_of-unknown.result.1.now in
     let name = c.as_str.result.now in
     let whole : words_of c.args.words.now ≡ name ∷ behind =
     ap words_of c.in-Some.ensures.cases.0 ∙ ap (λ n. n ∷ behind) (sym c.as_str.ensures.value) in
     let reads = c.in_ok-matches.ensures (codes "tvla") line_flags line_settings refl c.in_ok-command_line.ensures in
     let line : HasLine line_flags line_settings rest c.in-Some-2.matches =
     subst (Reads line_flags line_settings rest) c.in-Some-2.is reads in
-    unspelled name (words_of c.args.words.now) behind whole c.option_of.result.0 rest c.option_of.ensures.words
-    c.option_of.ensures.first c.in-Some-2.matches line c.said.result
-    (subst (λ (l : LineForm). IfOk c.said.result (λ found. IfNone found (NoneSaid name c.option_of.result.0 l)))
+    unspelled name (words_of c.args.words.now) behind whole c.option_of-unknown.result.0 rest c.option_of-unknown.ensures.words
+    c.option_of-unknown.ensures.first c.in-Some-2.matches line c.said.result
+    (subst (λ (l : LineForm). IfOk c.said.result (λ found. IfNone found (NoneSaid name c.option_of-unknown.result.0 l)))
     c.told_line.ensures c.said.ensures.none)

@@ -44,3 +44,7 @@ returns-then-branch-clause-meets c =
     = λ f from. (place, from.0, c.loop-place-test.true, from.1)
     in meets-on (IsFromBelow c.args.to) c.args.search.now middle new c.loop-place.invariant.meets
     (meets-weaker (IsFrom place) (IsFromBelow c.args.to) below middle new c.in_ok-follow.ensures.meets)
+
+pub returns-clause-answer : goal.returns-clause-answer
+returns-clause-answer c = λ place past less.
+    c.loop-place.invariant.passed place past (omega (arith, less, c.loop-place-test.false))
