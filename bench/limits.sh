@@ -110,6 +110,12 @@ def _(count):
                    chain(250, "x = {u0} " + names_apart(250, 8)))
 
 
+@row("a caption of 8,000 pieces at 400 edges, each with a word of 100 bytes", 8_000)
+def _(pieces):
+    edges = "".join("L F(" + f"w{k}".ljust(100, "_") + ") L\n" for k in range(400))
+    return analyze("%%\n%action F(a) { %t " + "+".join(["a"] * pieces) + " }\n%%\n" + edges)
+
+
 @row("32 picked variables, one individual", 32, tenth=4)
 def _(count):
     pre = " & ".join(f"x(z{k})" for k in range(count))
@@ -150,6 +156,22 @@ def _(count):
 
 row("check --maps: the same", 250)(lambda size: (["check", "p", "i", "r", "--maps"], ROWS_BY_NAME[
     "check: an embedding of 250 individuals along a chain"](size)[1]))
+
+
+@row("check: 10,000 structures with unknown flags at different places", 10_000)
+def _(count):
+    bits = (count - 1).bit_length()
+    preds = "".join(f"%p f{k}()\n" for k in range(2 * bits)) + "%p g()\n"
+    text = preds + "%%\n%action F() { { g() = !g() } }\n%%\nL F() M\n"
+
+    def structures(more):
+        """Of each pair of flags one is unknown, by a bit of the structure's number."""
+        flags = (" ".join(f"f{2 * k + (n >> k & 1)} = 1/2" for k in range(bits)) for n in range(count))
+        return "".join("%n = {} %p = { " + unknown + more + " }\n" for unknown in flags)
+
+    report = f"node L structures {count}\n{structures('')}node M structures {count}\n{structures(' g = 1/2')}"
+    return check(text, "", "tvla report 2\n" + report + "end\n")
+
 
 # ---- width ----
 
@@ -328,6 +350,15 @@ for count, levels in ((20, 29), (70, 15)):
 
 row("trace: 4 MiB of steps of a heap without individuals", MIB4)(
     lambda size: replay(TAIL, EMPTY, "step 0 " * (size // 7)))
+
+
+@row("trace: 200 steps and 64,000 rules", 40, tenth=18)
+def _(members):
+    rules = "%s M {" + ", ".join(f"m{k}" for k in range(members)) + "}\n%p b()\n%p q(v)\n"
+    rules += "foreach (x in M) { foreach (y in M) { foreach (z in M) { %r b() & q(v) ==> q(v) } } }\n"
+    return replay(rules + TAIL, EMPTY, "step 0 " * 200)
+
+
 row("trace: a step of 1,000,000 picks", 1_000_000, "status 1")(
     lambda size: replay(TAIL, ONE, "step 0 (0" + ", 0" * (size - 1) + ")"))
 
