@@ -823,13 +823,16 @@ smaller-of-Yes No = refl
 smaller-of-Yes Half = refl
 smaller-of-Yes Yes = refl
 
+pub length-either : (row : List K3) → length row ≡ 256 → length (paired larger_of row (map negation_of row)) ≡ 256
+length-either row wide =
+    length-paired larger_of row (map negation_of row) (wide ∙ sym (length-map row negation_of ∙ wide)) ∙ wide
+
 pub marks-more : (marks row : List K3) (place : ℕ) → length marks ≡ 256 → length row ≡ 256 → place < 256
     → get_or marks place No ≡ Yes → get_or row place No ≢ Half
     → get_or (paired smaller_of marks (paired larger_of row (map negation_of row))) place No ≡ Yes
 marks-more marks row place long wide lt on definite =
     let many : length (map negation_of row) ≡ 256 = length-map row negation_of ∙ wide
-    in let both : length (paired larger_of row (map negation_of row)) ≡ 256
-    = length-paired larger_of row (map negation_of row) (wide ∙ sym many) ∙ wide
+    in let both : length (paired larger_of row (map negation_of row)) ≡ 256 = length-either row wide
     in let here : place < length row = omega (arith, wide, lt)
     in get_or-paired smaller_of marks (paired larger_of row (map negation_of row)) place (omega (arith, long, lt))
     (omega (arith, both, lt))
@@ -874,8 +877,8 @@ GoesOnTo marks row next =
 pub marked-first : (glance : GlanceForm) (all row marks : List K3) → all ≡ replicate 256 Yes → row ≡ glance.nullary
     → GoesOnTo all row marks → AreMarkedTo glance 0 marks
 unfolding AreMarkedTo
-marked-first glance all row marks yes is goes place lt nullary unary =
-    goes place lt (ap (λ r. get_or r place No) yes ∙ get_or-replicate 256 place Yes No lt)
+marked-first glance all row marks full is goes place lt nullary unary =
+    goes place lt (ap (λ r. get_or r place No) full ∙ get_or-replicate 256 place Yes No lt)
     (subst (λ r. get_or r place No ≢ Half) (sym is) nullary)
 
 pub marked-more : (glance : GlanceForm) (n : ℕ) (row marks next : List K3) → n < length glance.unary
