@@ -8,8 +8,10 @@ ghost use Rattle.tv_structure_form.specs.StructureForm.{arities_of, value_at, su
 ghost use Rattle.tv_struct.specs.StructureRows.{flag_value};
 ghost use Rattle.tv_structure_form.specs.TableForm.{AreIndividuals};
 ghost use Rattle.tv_struct.specs.TupleForm.{tuple_of};
-ghost use Rattle.tv_cover.specs.Glance.{AreKnown, AreWithinMarks, AreOnlyImages, AreSummaries, IsOnlyMap, LieUnder};
-ghost use Rattle.tv_cover.specs.Glance.{MayEmbed, slot_of, glance_number, glance_of, nullary_value, profile_near};
+ghost use Rattle.tv_cover.specs.Glance.{AreKnown, AreWithinMarks, AreOnlyImages, AreSummaries, IsOnlyMap};
+ghost use Rattle.tv_cover.specs.Glance.{LieUnder};
+ghost use Rattle.tv_cover.specs.Glance.{MayEmbed, slot_of, glance_number, glance_of, nullary_value};
+ghost use Rattle.tv_cover.specs.Glance.{profile_near};
 ghost use Rattle.tv_cover.specs.Glance.{profile_of, value_near};
 
 use crate::noted::has_row;

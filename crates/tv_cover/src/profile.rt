@@ -1,6 +1,7 @@
 //! Values at 256 places, which say something of a structure or of one of its individuals.
 
-ghost use Rattle.std.specs.Prelude.{ℕ, ◌≡◌, ◌≢◌, ◌<◌, ◌≤◌, IsTrue, length, replicate, slice_index_or, slice_set};
+ghost use Rattle.std.specs.Prelude.{ℕ, ◌≡◌, ◌≢◌, ◌<◌, ◌≤◌, IsTrue, length, replicate, slice_index_or};
+ghost use Rattle.std.specs.Prelude.{slice_set};
 ghost use Rattle.tv_kleene.specs.declared.K3.TheVariants.{No, Half, Yes};
 ghost use Rattle.tv_cover.specs.Glance.{AreWithinMarks, LieUnder, profile_number};
 

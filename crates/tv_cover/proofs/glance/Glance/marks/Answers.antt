@@ -15,10 +15,11 @@ loop-row-preserved c =
     let same : c.as_slice-row-items.result.now ≡ c.args.self.now.unary
     = c.as_slice-row-items.ensures.value ∙ ap (λ (g : GlanceForm). g.unary) c.self.view_is
     in let Inside : List (List K3) → Type 0 = λ rows. c.loop-row.row-index < length rows
-    in marked-more c.args.self.now c.loop-row.row-index c.row-item.result c.loop-row.marks c.known_in-marks-in-loop-row.result
+    in marked-more c.args.self.now c.loop-row.row-index c.row-item.result c.loop-row.marks
+    c.known_in-marks-in-loop-row.result
     (subst Inside same c.loop-row-test.true)
-    (row-at c.as_slice-row-items.result.now c.args.self.now.unary c.loop-row.row-index c.row-item.result c.row-item.is same
-    c.loop-row-test.true)
+    (row-at c.as_slice-row-items.result.now c.args.self.now.unary c.loop-row.row-index c.row-item.result c.row-item.is
+    same c.loop-row-test.true)
     c.loop-row.invariant c.known_in-marks-in-loop-row.ensures
 
 pub returns : goal.returns

@@ -14,7 +14,8 @@ long row denied either wide is so =
 
 pub and-requires : goal.and-requires
 and-requires c =
-    c.self.invariant ∙ sym (long c.other.inside.row c.not.result c.or.result c.other.invariant c.not.ensures c.or.ensures)
+    c.self.invariant
+    ∙ sym (long c.other.inside.row c.not.result c.or.result c.other.invariant c.not.ensures c.or.ensures)
 
 pub invariant_of-result : goal.invariant_of-result
 invariant_of-result c =
