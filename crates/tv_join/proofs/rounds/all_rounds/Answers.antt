@@ -33,10 +33,10 @@ tell_all-requires c = (
   c.loop-stepper.invariant.at.at.kept,
   c.loop-stepper.invariant.edges,
   none-changed (task_of c.args.x.now.task) c.loop-stepper.joins
-    (IsAbsorbed (program_of c.args.x.now.task.program.now) c.loop-stepper.joins.nodes) c.loop-stepper.values
-    c.loop-stepper.invariant.at.followed
-    (subst (λ b. MatchBool b (c.loop-stepper.joins.changed ≢ []) (c.loop-stepper.joins.changed ≡ []))
-    c.loop-stepper-test.false c.has_changed.ensures),
+      (IsAbsorbed (program_of c.args.x.now.task.program.now) c.loop-stepper.joins.nodes) c.loop-stepper.values
+      c.loop-stepper.invariant.at.followed
+      (subst (λ b. MatchBool b (c.loop-stepper.joins.changed ≢ []) (c.loop-stepper.joins.changed ≡ []))
+      c.loop-stepper-test.false c.has_changed.ensures),
 )
 
 pub returns-clause-last : goal.returns-clause-last
