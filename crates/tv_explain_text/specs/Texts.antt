@@ -1,5 +1,6 @@
 -- The texts that explain.
-use Rattle.std.specs.Prelude.{ℕ, ◌<◌, ◌≤◌, ◌+◌, All, List, [], ◌∷◌, ◌++◌, Option, None, Some, length, slice_get, codes}
+use Rattle.std.specs.Prelude.{ℕ, ◌<◌, ◌≤◌, ◌+◌, All, List, [], ◌∷◌, ◌++◌, Option, None, Some, length}
+use Rattle.std.specs.Prelude.{slice_get, codes}
 use Rattle.std.specs.Prelude.{decimal}
 use Rattle.tv_file_lines.specs.Numbered.{numbered}
 use Rattle.tv_listing.specs.ListingForm.{at_node}

@@ -12,7 +12,8 @@ use Rattle.tv_join.specs.declared.keyed.KeyedTask.{KeyedTask}
 
 -- the task can be worked on, and its flags say which predicates count for keys
 abbrev pub IsReadyWithKeys : KeyedTask → EngineForm → Type 0
-IsReadyWithKeys x stepper = IsReady x.task stepper × (x.counted.now ≡ key_flags (program_of x.task.program.now))
+IsReadyWithKeys x stepper =
+    IsReady x.task stepper × (x.counted.now ≡ key_flags (program_of x.task.program.now))
 
 -- the points that a round lists
 abbrev pub round_in : TaskForm → (round : ℕ) → Point → Type 0

@@ -8,7 +8,8 @@ ghost use Rattle.tv_structure_form.specs.StructureForm.{IsOver, arities_of};
 ghost use Rattle.tv_show.specs.Texts.{marked, valued};
 ghost use Rattle.tv_show.specs.Line.{opening, closing, yes_places, telling, numbered, numeral};
 ghost use Rattle.tv_show.specs.Line.{target_text, individual_text, line_of};
-ghost use Rattle.tv_show.specs.Named.{AreItsPreds, AreLabels, IsIndividualOf, only, told, all_told, is_at, named};
+ghost use Rattle.tv_show.specs.Named.{AreItsPreds, AreLabels, IsIndividualOf, only, told, all_told, is_at};
+ghost use Rattle.tv_show.specs.Named.{named};
 ghost use Rattle.tv_show.specs.Rows.{each_pred, unary_marked, nullary_marked, arrow_marked, row_marked};
 ghost use Rattle.tv_show.specs.Rows.{binary_marked};
 
