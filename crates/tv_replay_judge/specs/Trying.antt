@@ -56,7 +56,8 @@ ArePlaced size rest places f = (v : ℕ) → IsFree v f → Contains rest v ⊎ 
 
 -- the evaluator has the heap, and can tell the formula there, whose free variables are the others or placed
 abbrev pub CanTellIn : Evaluator → StructureForm → (rest : List ℕ) → List (Option ℕ) → Form → Type 0
-CanTellIn e s rest places f = (bound_structure e ≡ s) × CanTell s (bound_room e) f × ArePlaced s.size rest places f
+CanTellIn e s rest places f =
+    (bound_structure e ≡ s) × CanTell s (bound_room e) f × ArePlaced s.size rest places f
 
 -- so it is for each individual that the variable may stand for whose turn it is
 abbrev pub CanTellAlong : Evaluator → StructureForm → Turn → Form → Type 0
