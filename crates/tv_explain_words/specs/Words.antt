@@ -1,9 +1,10 @@
 -- What the words of a call spell.
-use Rattle.std.specs.Prelude.{◌≡◌, ◌<◌, ◌^◌, ℕ, Bool, false, List, [], ◌∷◌, codes, decimal}
-use Rattle.std.specs.Prelude.{string_bytes}
+use Rattle.std.specs.Prelude.{◌≡◌, ◌<◌, ◌^◌, ◌&&◌, ℕ, Bool, false, not, List, [], ◌∷◌, codes, decimal}
+use Rattle.std.specs.Prelude.{count_by, filter, string_bytes}
+use Rattle.std.specs.Str.{bytes_eq}
 use Rattle.tv_model.specs.declared.program.Mode.{Mode}
 use Rattle.tv_model.specs.declared.program.Mode.TheVariants.{Given}
-use Rattle.tv_words.specs.Words.{HasFlags, IsMax, LineForm, StandsOn}
+use Rattle.tv_words.specs.Words.{HasFlags, IsMax, LineForm, StandsOn, once}
 use Rattle.tv_explain_words.specs.declared.words.Analyzed.{Analyzed}
 use Rattle.tv_explain_words.specs.declared.words.Command.{Command}
 use Rattle.tv_explain_words.specs.declared.words.Command.TheVariants.{Show, Edges, Message, Structure, Losses}
@@ -33,7 +34,7 @@ pub data CommandForm : Type 0 where
   TellsMessage : (of : AnalyzedForm) → (edge number : ℕ) → CommandForm
   TellsStructure : (of : AnalyzedForm) → (node : List ℕ) → (index : ℕ) → CommandForm
   TellsLosses : (of : AnalyzedForm) → CommandForm
-  Compiles : (source : List ℕ) → CommandForm
+  Compiles : (source : List ℕ) → (updates : Bool) → CommandForm
   TakesStep : (of : AnalyzedForm) → (edge : ℕ) → CommandForm
   TellsPlan : (program : List ℕ) → (mode : Mode) → (delta : Bool) → CommandForm
   TellsCounts : (of : AnalyzedForm) → CommandForm
@@ -45,7 +46,7 @@ form_of (Edges program) = ListsEdges (string_bytes program)
 form_of (Message of edge number) = TellsMessage (analyzed_of of) edge number
 form_of (Structure of node index) = TellsStructure (analyzed_of of) (string_bytes node) index
 form_of (Losses of) = TellsLosses (analyzed_of of)
-form_of (Compiled source) = Compiles (string_bytes source)
+form_of (Compiled source updates) = Compiles (string_bytes source) updates
 form_of (Step of edge) = TakesStep (analyzed_of of) edge
 form_of (Plan program mode delta) = TellsPlan (string_bytes program) mode delta
 form_of (Counts of) = TellsCounts (analyzed_of of)
@@ -62,7 +63,7 @@ command_word (ListsEdges program) = codes "edges"
 command_word (TellsMessage of edge number) = codes "message"
 command_word (TellsStructure of node index) = codes "structure"
 command_word (TellsLosses of) = codes "losses"
-command_word (Compiles source) = codes "compiled"
+command_word (Compiles source updates) = codes "compiled"
 command_word (TakesStep of edge) = codes "step"
 command_word (TellsPlan program mode delta) = codes "plan"
 command_word (TellsCounts of) = codes "counts"
@@ -81,7 +82,7 @@ abbrev pub HasOptions : LineForm → AnalyzedForm → Type 0
 HasOptions line of = HasFlags line of.mode of.delta false × IsMax line.max of.max
 
 -- a line says a command: it has the command's operands, each option of the command once at most, and no other
--- option
+-- option. An own flag stands beside the line
 abbrev pub Says : LineForm → CommandForm → Type 0
 Says line (Shows program report) = (line.operands ≡ program ∷ report ∷ []) × IsPlain line
 Says line (ListsEdges program) = (line.operands ≡ program ∷ []) × IsPlain line
@@ -91,7 +92,7 @@ Says line (TellsMessage of edge number) = (e n : List ℕ)
 Says line (TellsStructure of node index) = (n : List ℕ)
     × (line.operands ≡ of.program ∷ of.initial ∷ node ∷ n ∷ []) × HasOptions line of × IsNumber n index
 Says line (TellsLosses of) = (line.operands ≡ of.program ∷ of.initial ∷ []) × HasOptions line of
-Says line (Compiles source) = (line.operands ≡ source ∷ []) × IsPlain line
+Says line (Compiles source updates) = (line.operands ≡ source ∷ []) × IsPlain line × (updates ≡ false)
 Says line (TakesStep of edge) = (e : List ℕ) × (line.operands ≡ of.program ∷ of.initial ∷ e ∷ [])
     × HasOptions line of × (line.max ≡ []) × IsNumber e edge
 Says line (TellsPlan program mode delta) = (line.operands ≡ program ∷ []) × HasFlags line mode delta false
@@ -99,11 +100,35 @@ Says line (TellsPlan program mode delta) = (line.operands ≡ program ∷ []) ×
 Says line (TellsCounts of) = (line.operands ≡ of.program ∷ of.initial ∷ []) × HasOptions line of
 Says line (Completes program structures) = (line.operands ≡ program ∷ structures ∷ []) × IsPlain line
 
--- a line that stands on the words says the command
+-- ---- own flags
+
+-- the word is the own flag of the command of this name
+abbrev pub is_own : (name word : List ℕ) → Bool
+is_own name word = bytes_eq name (codes "compiled") && bytes_eq word (codes "--updates")
+
+-- the words but for that flag, and how often it stands
+abbrev pub others_of : (name : List ℕ) → List (List ℕ) → List (List ℕ)
+others_of name words = filter (λ word. not (is_own name word)) words
+
+abbrev pub own_uses : (name : List ℕ) → List (List ℕ) → ℕ
+own_uses name words = count_by (λ word. is_own name word) words
+
+-- whether the command's own flag is set; and the command with that flag so
+abbrev pub is_set : CommandForm → Bool
+is_set (Compiles source updates) = updates
+is_set other = false
+
+abbrev pub with_flag : (on : Bool) → CommandForm → CommandForm
+with_flag on (Compiles source updates) = Compiles source on
+with_flag on other = other
+
+-- the own flag of the command stands among the words once where it is set, wherever, else not at all; and a
+-- line that stands on the others says the rest of the command
 pub record IsRest (words : List (List ℕ)) (command : CommandForm) : Type 0 where
   pub line : LineForm
-  pub stands : StandsOn words line
-  pub says : Says line command
+  pub stands : StandsOn (others_of (command_word command) words) line
+  pub says : Says line (with_flag false command)
+  pub own : own_uses (command_word command) words ≡ once (is_set command)
 
 -- the words spell this command: its name, and the rest behind it
 abbrev pub Spells : List (List ℕ) → CommandForm → Type 0

@@ -1,10 +1,12 @@
 //! The words after the program's name.
 
-ghost use Rattle.std.specs.Prelude.{◌≡◌, ℕ, List, [], ◌∷◌, IfOk, IfSome, IfNone, codes};
+ghost use Rattle.std.specs.Prelude.{◌≡◌, ◌++◌, ℕ, Bool, List, [], ◌∷◌, IfOk, IfSome, IfNone, OnOk, codes};
+ghost use Rattle.std.specs.Prelude.{if◌then◌else◌, string_bytes};
 ghost use Rattle.tv_words.specs.Setup.{line_in, told_texts};
-ghost use Rattle.tv_words.specs.Words.{words_of};
+ghost use Rattle.tv_words.specs.Words.{once, words_of};
 ghost use Rattle.tv_explain_words.specs.Words.{IsNumber, IsSaid, NoneSaid, Spells, SpellsNothing, SaidOf};
-ghost use Rattle.tv_explain_words.specs.Words.{AsksNothing, IsAsked, analyzed_of};
+ghost use Rattle.tv_explain_words.specs.Words.{AsksNothing, IsAsked, analyzed_of, form_of, is_own, others_of};
+ghost use Rattle.tv_explain_words.specs.Words.{is_set, own_uses, with_flag};
 
 use itoa::Buffer;
 use std::alloc::{AllocError, Global};
@@ -54,9 +56,11 @@ pub enum Command {
     Losses {
         of: Analyzed,
     },
-    /// Writes the program that a source program is compiled to.
+    /// Writes the program that a source program is compiled to; with `updates` the one that updates what
+    /// variables reach.
     Compiled {
         source: String,
+        updates: bool,
     },
     /// Writes one abstract step of each structure of a file along the edge of this number, stage by stage.
     /// The file stands in the place of the initial structures, and `max` is that of words that don't say it.
@@ -241,6 +245,7 @@ fn compiled(alloc: Global, line: &Line<'_, '_>) -> Result<Option<Command>, Alloc
     }
     Ok(Some(Command::Compiled {
         source: String::from_str(alloc, source)?,
+        updates: false,
     }))
 }
 
@@ -337,6 +342,78 @@ fn said(alloc: Global, name: &str, line: &Line<'_, '_>) -> Result<Option<Command
     }
 }
 
+/// Whether the word is the own flag of the command of this name.
+fn is_own(name: &str, word: &str) -> bool
+    ensures { result ≡ is_own name.now word.now }
+{
+    name == "compiled" && word == "--updates"
+}
+
+/// Puts the word behind the others, unless it is to be passed over.
+fn push_unless(others: &mut Vec<String>, passed: bool, word: String) -> Result<(), AllocError>
+    ensures { OnOk result (words_of others.new.items
+        ≡ (if passed then words_of others.old.items else words_of others.old.items ++ string_bytes word ∷ [])) }
+{
+    if passed {
+        return Ok(());
+    }
+    Ok(others.push(word)?)
+}
+
+/// The words but for the own flag of the command of this name.
+fn others_of(alloc: Global, name: &str, words: &[String]) -> Result<Vec<String>, AllocError>
+    ensures { IfOk result (λ others. words_of others.items ≡ others_of name.now (words_of words.now)) }
+{
+    let mut others = Vec::new(alloc);
+    for word in words {
+        let own = is_own(name, word.as_str());
+        push_unless(&mut others, own, String::from_str(alloc, word.as_str())?)?;
+    }
+    Ok(others)
+}
+
+/// 1 where the word is the own flag of the command of this name, else 0.
+fn use_of(name: &str, word: &str) -> usize
+    ensures { result ≡ (if is_own name.now word.now then 1 else 0) }
+{
+    if is_own(name, word) {
+        return 1;
+    }
+    0
+}
+
+/// How often the own flag of the command of this name stands.
+fn own_uses(name: &str, words: &[String]) -> usize
+    ensures { result ≡ own_uses name.now (words_of words.now) }
+{
+    let mut uses = 0;
+    for i in 0..words.len() {
+        uses += use_of(name, words[i].as_str());
+    }
+    uses
+}
+
+/// The command with its own flag where that stands once, and without where it doesn't stand.
+fn flagged(command: Command, uses: usize) -> Option<Command>
+    ensures some { IfSome result (λ found. (on : Bool)
+        × (form_of found ≡ with_flag on (form_of command)) × (uses ≡ once (is_set (form_of found)))) }
+    ensures none { IfNone result ((on : Bool) → ¬ (uses ≡ once (is_set (with_flag on (form_of command))))) }
+{
+    let on = match uses {
+        0 => false,
+        1 => true,
+        _ => return None,
+    };
+    match command {
+        Command::Compiled { source, .. } => Some(Command::Compiled {
+            source,
+            updates: on,
+        }),
+        other if !on => Some(other),
+        _ => None,
+    }
+}
+
 /// The command that the words spell, and none exactly where they spell none.
 ///
 /// # Errors
@@ -348,8 +425,12 @@ pub fn read_words(alloc: Global, words: &[String]) -> Result<Option<Command>, Al
     let Some((name, behind)) = words.split_first() else {
         return Ok(None);
     };
-    let Some(matches) = read_line(command_line(alloc)?, behind)? else {
+    let others = others_of(alloc, name.as_str(), behind)?;
+    let Some(matches) = read_line(command_line(alloc)?, others.as_slice())? else {
         return Ok(None);
     };
-    said(alloc, name.as_str(), &told_line(&matches))
+    let Some(command) = said(alloc, name.as_str(), &told_line(&matches))? else {
+        return Ok(None);
+    };
+    Ok(flagged(command, own_uses(name.as_str(), behind)))
 }

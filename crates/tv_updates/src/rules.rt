@@ -1,0 +1,56 @@
+//! The rules that what variables reach goes on along edges.
+
+ghost use Rattle.std.specs.Prelude.{◌≡◌, ◌<◌, ◌++◌, length, map, IfOk, OnOk};
+ghost use Rattle.tv_model.specs.Program.{rule_of};
+ghost use Rattle.tv_source.specs.Copies.{source_of};
+ghost use Rattle.tv_source.specs.Valid.{IsFieldOf, IsVariableOf};
+ghost use Rattle.tv_plang.specs.Limits.{HasFewNames};
+ghost use Rattle.tv_updates_laws.specs.Updated.{field_rules, reach_rule, reach_rules};
+
+use crate::formulas::{Reach, both, leading, number_of, reaching};
+use std::alloc::{AllocError, Global};
+use tv_model::{Head, Items, PredId, Rule, Rules, Terms, Var};
+use tv_source::{FieldId, Source, VarId};
+
+/// `r[f,x](v) & f(v, v_1) ==> r[f,x](v_1)`
+fn rule(alloc: Global, source: &Source, r: Reach) -> Result<Rule, AllocError>
+    requires few { HasFewNames (source_of source.now) }
+    requires field { IsFieldOf (source_of source.now) r.field.0 }
+    requires variable { IsVariableOf (source_of source.now) r.variable.0 }
+    ensures { IfOk result (λ c. rule_of c ≡ reach_rule (source_of source.now) r.field.0 r.variable.0) }
+{
+    let edge = leading(source, r.field, 0, 1);
+    Ok(Rule {
+        body: both(alloc, reaching(source, r, 0), edge)?,
+        head: Head::Atom(true, PredId(number_of(source, r)), Terms::One(Var(1))),
+    })
+}
+
+/// Appends the rules of what each variable reaches along the field.
+fn put_field(alloc: Global, source: &Source, f: u32, out: &mut Rules) -> Result<(), AllocError>
+    requires few { HasFewNames (source_of source.now) }
+    requires field { IsFieldOf (source_of source.now) f }
+    ensures { OnOk result
+        (map rule_of out.new ≡ map rule_of out.old ++ field_rules (source_of source.now) f) }
+{
+    for x in 0..source.variables.len() as u32 {
+        let r = Reach {
+            field: FieldId(f),
+            variable: VarId(x),
+        };
+        out.push(rule(alloc, source, r)?)?;
+    }
+    Ok(())
+}
+
+/// The rules of what each variable reaches along each field.
+pub fn rules(alloc: Global, source: &Source) -> Result<Rules, AllocError>
+    requires few { HasFewNames (source_of source.now) }
+    ensures { IfOk result (λ all. map rule_of all ≡ reach_rules (source_of source.now)) }
+{
+    let mut out = Items::new(alloc);
+    for f in 0..source.fields.len() as u32 {
+        put_field(alloc, source, f, &mut out)?;
+    }
+    Ok(out)
+}
