@@ -8,6 +8,8 @@ mod EdgesKept
 mod EdgesWired
 mod Endings
 mod Questions
+mod Reports
 mod Silence
+mod Sources
 mod Steps
 mod Trees

@@ -31,7 +31,6 @@ use Rattle.tv_explain.specs.declared.fault.Unwritten.{Unwritten}
 use Rattle.tv_explain.specs.declared.fault.Unwritten.TheVariants as unwritten
 use Rattle.tv_explain.specs.declared.inputs.Inputs.{Inputs}
 use Rattle.tv_explain_text.specs.Texts.{messages_at}
-use Rattle.tv_texts.specs.Sources.{IsSourceText}
 use Rattle.tv_texts.specs.Structures.{IsStructuresText}
 use Rattle.tv_texts.specs.declared.source.SourceText.{SourceText}
 use Rattle.tv_texts.specs.declared.structures.StructuresText.{StructuresText}
@@ -109,7 +108,8 @@ CanAnswer told (TellsStructure of node index) = (inputs : Inputs) × FilesMean t
     × ListsSuch of inputs node (λ structures. index < length structures)
 CanAnswer told (TellsLosses of) = (inputs : Inputs) × FilesMean told of inputs
     × IsWithinLimits of inputs × LosesSuch of inputs AreNone
-CanAnswer told (Compiles source) = (read : SourceText) × IsSourceText told source read × CanBeWritten read
+CanAnswer told (Compiles source updates) =
+    (read : SourceText) × IsTakenText told updates source read × CanBeWritten read
 CanAnswer told (TakesStep of edge) = (inputs : Inputs) × FilesMean told of inputs × KeepsEach edge inputs
     × (edge < length (drawn_form inputs).edges)
 CanAnswer told (TellsPlan program mode delta) = (p : Program) × IsProgramFile told program (Ok p)

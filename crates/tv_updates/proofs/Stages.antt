@@ -46,3 +46,6 @@ updated_does one runs told ts s program meant valid is =
       runs = λ p means. subst (RunsAreRunsOf program) (one ts s p meant means) runs_here;
       nulls = λ p means. subst (NullsAreToldBy program) (one ts s p meant means) told_here;
     }
+
+pub one_updated : HaveOneMeaning MeansSource → HaveOneMeaning MeansUpdated
+one_updated one ts x y a b = a.is ∙ ap updated_program (one ts a.source b.source a.meant b.meant) ∙ sym b.is

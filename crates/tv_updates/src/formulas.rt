@@ -4,7 +4,7 @@ ghost use Rattle.std.specs.Prelude.{◌≡◌, ◌<◌, [], ◌∷◌, IfOk};
 ghost use Rattle.tv_model.specs.Form.{form_of, FAtom, FNot, FAnd, FOr, FExists};
 ghost use Rattle.tv_source.specs.Copies.{source_of};
 ghost use Rattle.tv_source.specs.Valid.{IsFieldOf, IsVariableOf};
-ghost use Rattle.tv_plang_laws.specs.Compiled.{field_number, leads, points};
+ghost use Rattle.tv_plang_laws.specs.Compiled.{leads, points};
 ghost use Rattle.tv_plang.specs.Limits.{HasFewNames};
 ghost use Rattle.tv_updates_laws.specs.Updated.{reach_number, reaches};
 
@@ -12,34 +12,41 @@ use std::alloc::{AllocError, Global};
 use tv_model::{Formula, PredId, Terms, Var};
 use tv_source::{FieldId, Source, VarId};
 
-/// The predicate that tells what a variable reaches along a field.
-#[derive(Clone, Copy, Debug)]
-pub struct Reach {
+/// The predicate that tells what a variable of a source program reaches along a field; both are declared, and
+/// it has few names.
+#[derive(Clone, Copy)]
+pub struct Reach<'a> {
+    pub source: &'a Source,
     pub field: FieldId,
     pub variable: VarId,
+    ghost few: { HasFewNames (source_of source.now) },
+    ghost its_field: { IsFieldOf (source_of source.now) field.0 },
+    ghost its_variable: { IsVariableOf (source_of source.now) variable.0 },
 }
 
-/// The number of its predicate.
+/// The number of the predicate.
 #[tactic(auto, using(crate::proofs::Numbers::reach_fits))]
-pub fn number_of(source: &Source, r: Reach) -> u32
-    requires few { HasFewNames (source_of source.now) }
-    requires field { IsFieldOf (source_of source.now) r.field.0 }
-    requires variable { IsVariableOf (source_of source.now) r.variable.0 }
-    ensures { result ≡ reach_number (source_of source.now) r.field.0 r.variable.0 }
+pub fn number_of(r: Reach<'_>) -> u32
+    ensures { result ≡ reach_number (source_of r.source.now) r.field.0 r.variable.0 }
 {
-    let variables = source.variables.len() as u32;
-    let fields = source.fields.len() as u32;
+    let variables = r.source.variables.len() as u32;
+    let fields = r.source.fields.len() as u32;
     variables + fields + (r.field.0 * variables + r.variable.0)
 }
 
 /// `r[f,x](v)`
-pub fn reaching(source: &Source, r: Reach, v: u8) -> Formula
-    requires few { HasFewNames (source_of source.now) }
-    requires field { IsFieldOf (source_of source.now) r.field.0 }
-    requires variable { IsVariableOf (source_of source.now) r.variable.0 }
-    ensures { form_of result ≡ reaches (source_of source.now) r.field.0 r.variable.0 v }
+pub fn reaching(r: Reach<'_>, v: u8) -> Formula
+    ensures { form_of result ≡ reaches (source_of r.source.now) r.field.0 r.variable.0 v }
 {
-    Formula::Atom(PredId(number_of(source, r)), Terms::One(Var(v)))
+    Formula::Atom(PredId(number_of(r)), Terms::One(Var(v)))
+}
+
+/// `f(v, w)`, along the field.
+pub fn leading(r: Reach<'_>, v: u8, w: u8) -> Formula
+    ensures { form_of result ≡ leads (source_of r.source.now) r.field.0 v w }
+{
+    let number = r.source.variables.len() as u32 + r.field.0;
+    Formula::Atom(PredId(number), Terms::Two(Var(v), Var(w)))
 }
 
 /// `x(v)`
@@ -47,16 +54,6 @@ pub fn pointing(x: VarId, v: u8) -> Formula
     ensures { form_of result ≡ points x.0 v }
 {
     Formula::Atom(PredId(x.0), Terms::One(Var(v)))
-}
-
-/// `f(v, w)`
-pub fn leading(source: &Source, f: FieldId, v: u8, w: u8) -> Formula
-    requires few { HasFewNames (source_of source.now) }
-    requires field { IsFieldOf (source_of source.now) f.0 }
-    ensures { form_of result ≡ leads (source_of source.now) f.0 v w }
-{
-    let number = source.variables.len() as u32 + f.0;
-    Formula::Atom(PredId(number), Terms::Two(Var(v), Var(w)))
 }
 
 fn boxed(alloc: Global, f: Formula) -> Result<Box<Formula>, AllocError>

@@ -5,8 +5,10 @@ mod actions;
 mod assigned;
 mod changes;
 mod formulas;
+mod laws;
 mod rules;
 mod text;
 mod updates;
 
+pub use laws::one_meaning;
 pub use text::compile_with_updates;

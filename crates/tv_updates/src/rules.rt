@@ -3,7 +3,7 @@
 ghost use Rattle.std.specs.Prelude.{◌≡◌, ◌<◌, ◌++◌, length, map, IfOk, OnOk};
 ghost use Rattle.tv_model.specs.Program.{rule_of};
 ghost use Rattle.tv_source.specs.Copies.{source_of};
-ghost use Rattle.tv_source.specs.Valid.{IsFieldOf, IsVariableOf};
+ghost use Rattle.tv_source.specs.Valid.{IsFieldOf};
 ghost use Rattle.tv_plang.specs.Limits.{HasFewNames};
 ghost use Rattle.tv_updates_laws.specs.Updated.{field_rules, reach_rule, reach_rules};
 
@@ -13,16 +13,12 @@ use tv_model::{Head, Items, PredId, Rule, Rules, Terms, Var};
 use tv_source::{FieldId, Source, VarId};
 
 /// `r[f,x](v) & f(v, v_1) ==> r[f,x](v_1)`
-fn rule(alloc: Global, source: &Source, r: Reach) -> Result<Rule, AllocError>
-    requires few { HasFewNames (source_of source.now) }
-    requires field { IsFieldOf (source_of source.now) r.field.0 }
-    requires variable { IsVariableOf (source_of source.now) r.variable.0 }
-    ensures { IfOk result (λ c. rule_of c ≡ reach_rule (source_of source.now) r.field.0 r.variable.0) }
+fn rule(alloc: Global, r: Reach<'_>) -> Result<Rule, AllocError>
+    ensures { IfOk result (λ c. rule_of c ≡ reach_rule (source_of r.source.now) r.field.0 r.variable.0) }
 {
-    let edge = leading(source, r.field, 0, 1);
     Ok(Rule {
-        body: both(alloc, reaching(source, r, 0), edge)?,
-        head: Head::Atom(true, PredId(number_of(source, r)), Terms::One(Var(1))),
+        body: both(alloc, reaching(r, 0), leading(r, 0, 1))?,
+        head: Head::Atom(true, PredId(number_of(r)), Terms::One(Var(1))),
     })
 }
 
@@ -35,10 +31,11 @@ fn put_field(alloc: Global, source: &Source, f: u32, out: &mut Rules) -> Result<
 {
     for x in 0..source.variables.len() as u32 {
         let r = Reach {
+            source,
             field: FieldId(f),
             variable: VarId(x),
         };
-        out.push(rule(alloc, source, r)?)?;
+        out.push(rule(alloc, r)?)?;
     }
     Ok(())
 }

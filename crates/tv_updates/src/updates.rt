@@ -3,7 +3,7 @@
 ghost use Rattle.std.specs.Prelude.{◌≡◌, ◌<◌, ◌++◌, map, OnOk};
 ghost use Rattle.tv_model.specs.Program.{pre_of, update_of};
 ghost use Rattle.tv_source.specs.Copies.{assign_of, source_of};
-ghost use Rattle.tv_source.specs.Valid.{IsAssignOf, IsFieldOf, IsVariableOf};
+ghost use Rattle.tv_source.specs.Valid.{IsAssignOf, IsFieldOf};
 ghost use Rattle.tv_plang.specs.Limits.{HasFewNames};
 ghost use Rattle.tv_updates_laws.specs.Updated.{field_updates, reach_change, reach_updates, sets_reach};
 
@@ -15,22 +15,18 @@ use tv_source::{Assign, FieldId, Source, VarId};
 
 /// Appends the update by the formula, where there is one.
 fn put_change(
-    source: &Source,
-    r: Reach,
+    r: Reach<'_>,
     change: Option<Formula>,
     out: &mut Updates,
 ) -> Result<(), AllocError>
-    requires few { HasFewNames (source_of source.now) }
-    requires field { IsFieldOf (source_of source.now) r.field.0 }
-    requires variable { IsVariableOf (source_of source.now) r.variable.0 }
     ensures { OnOk result (map update_of out.new ≡ map update_of out.old
-        ++ sets_reach (source_of source.now) r.field.0 r.variable.0 (pre_of change)) }
+        ++ sets_reach (source_of r.source.now) r.field.0 r.variable.0 (pre_of change)) }
 {
     let Some(formula) = change else {
         return Ok(());
     };
     out.push(Update {
-        pred: PredId(number_of(source, r)),
+        pred: PredId(number_of(r)),
         vars: Terms::One(Var(0)),
         change: Change::To(formula),
     })
@@ -52,11 +48,12 @@ fn put_field(
 {
     for z in 0..source.variables.len() as u32 {
         let r = Reach {
+            source,
             field: FieldId(f),
             variable: VarId(z),
         };
-        let change = change_of(alloc, source, assign, r)?;
-        put_change(source, r, change, out)?;
+        let change = change_of(alloc, r, assign)?;
+        put_change(r, change, out)?;
     }
     Ok(())
 }
