@@ -9,7 +9,9 @@ static PREDICATES: &str = "%p x(v) unique %p y(v) unique %p n(v_1, v_2) function
 %i r[n,x](v) = E(v_1) x(v_1) & n*(v_1, v)
 %i r[n,y](v) = E(v_1) y(v_1) & n*(v_1, v)
 %r r[n,x](v) & n(v, v_1) ==> r[n,x](v_1)
+%r r[n,x](v) & !(E(v_1) n(v, v_1)) & r[n,x](v_2) & x(v_3) ==> !n(v_2, v_3)
 %r r[n,y](v) & n(v, v_1) ==> r[n,y](v_1)
+%r r[n,y](v) & !(E(v_1) n(v, v_1)) & r[n,y](v_2) & y(v_3) ==> !n(v_2, v_3)
 %%
 ";
 
@@ -24,7 +26,8 @@ x = y->n\t%action A0() { %f \
 r[n,x](v) = r[n,y](v) & (!y(v) | (E(v_1) r[n,y](v_1) & n(v_1, v))) } } %% S0 A0() Exit
 x->n = y\t%action A0() { %f { x(v), y(v) } %p E(v) x(v) %message !(E(v) x(v)) -> \"null dereference of x\" \
 { n(v_1, v_2) = x(v_1) & y(v_2) | !x(v_1) & n(v_1, v_2) \
-r[n,x](v) = x(v) | (E(v_1) x(v_1) & r[n,x](v_1)) & (r[n,y](v) & (!(E(v_1) x(v_1) & r[n,y](v_1)) | (!r[n,x](v) | (x(v) | \
+r[n,x](v) = x(v) | (E(v_1) x(v_1) & r[n,x](v_1)) & (r[n,y](v) & (!(E(v_1) x(v_1) & r[n,y](v_1)) \
+| (!r[n,x](v) | (x(v) | \
 (E(v_1) y(v_1) & (v_1 == v | TC (v_1, v) (v_2, v_3) (!x(v_2) & n(v_2, v_3)))))))) \
 r[n,y](v) = (r[n,y](v) & (!(E(v_1) x(v_1) & r[n,y](v_1)) | (!r[n,x](v) | (x(v) | \
 (E(v_1) y(v_1) & (v_1 == v | TC (v_1, v) (v_2, v_3) (!x(v_2) & n(v_2, v_3)))))))) \
@@ -46,7 +49,9 @@ static TWO_FIELDS: &str = "%p x(v) unique %p f(v_1, v_2) function %p g(v_1, v_2)
 %i r[f,x](v) = E(v_1) x(v_1) & f*(v_1, v)
 %i r[g,x](v) = E(v_1) x(v_1) & g*(v_1, v)
 %r r[f,x](v) & f(v, v_1) ==> r[f,x](v_1)
+%r r[f,x](v) & !(E(v_1) f(v, v_1)) & r[f,x](v_2) & x(v_3) ==> !f(v_2, v_3)
 %r r[g,x](v) & g(v, v_1) ==> r[g,x](v_1)
+%r r[g,x](v) & !(E(v_1) g(v, v_1)) & r[g,x](v_2) & x(v_3) ==> !g(v_2, v_3)
 %%
 ";
 

@@ -3,21 +3,10 @@ use Rattle.std.proofs.Common.{ℕ, ◌≡◌, ◌+◌, ◌∙◌, List, [], ◌�
 use Rattle.std.proofs.Common.{append_assoc, append-nil}
 use Rattle.std.specs.List.{flat_map}
 use Rattle.std.proofs.lemmas.Grind.{flat_map-append}
-use Rattle.std.proofs.lemmas.List.FromFn.{map-range_with_len_more}
 use Rattle.tv_plang_laws.specs.Compiled.{numbers_below}
 use Rattle.tv_lemmas.proofs.Lists.{range_more}
 
--- what is put behind a mapped range makes the longer one
-pub mapped_more : {X : Type 0} (g : ℕ → X) (n : ℕ) (start out longer : List X) (x : X)
-    → out ≡ start ++ map g (numbers_below n) → x ≡ g n
-    → longer ≡ out ++ x ∷ [] → longer ≡ start ++ map g (numbers_below (n + 1))
-mapped_more g n start out longer x so_far is grown =
-    grown
-    ∙ ap (λ xs. xs ++ x ∷ []) so_far
-    ∙ append_assoc start (map g (numbers_below n)) (x ∷ [])
-    ∙ ap (λ y. start ++ (map g (numbers_below n) ++ y ∷ [])) is
-    ∙ sym (ap (λ xs. start ++ xs) (map-range_with_len_more g 0 n n (omega arith)))
-
+-- what is put behind the parts over a range makes those over the longer one
 pub flat_mapped_more : {X : Type 0} (g : ℕ → List X) (n : ℕ) (start out longer : List X)
     → out ≡ start ++ flat_map g (numbers_below n)
     → longer ≡ out ++ g n → longer ≡ start ++ flat_map g (numbers_below (n + 1))

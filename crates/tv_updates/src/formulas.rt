@@ -4,7 +4,7 @@ ghost use Rattle.std.specs.Prelude.{◌≡◌, ◌<◌, [], ◌∷◌, IfOk};
 ghost use Rattle.tv_model.specs.Form.{form_of, FAtom, FNot, FAnd, FOr, FExists};
 ghost use Rattle.tv_source.specs.Copies.{source_of};
 ghost use Rattle.tv_source.specs.Valid.{IsFieldOf, IsVariableOf};
-ghost use Rattle.tv_plang_laws.specs.Compiled.{leads, points};
+ghost use Rattle.tv_plang_laws.specs.Compiled.{field_number, leads, points};
 ghost use Rattle.tv_plang.specs.Limits.{HasFewNames};
 ghost use Rattle.tv_updates_laws.specs.Updated.{reach_number, reaches};
 
@@ -41,12 +41,18 @@ pub fn reaching(r: Reach<'_>, v: u8) -> Formula
     Formula::Atom(PredId(number_of(r)), Terms::One(Var(v)))
 }
 
+/// The predicate of the field.
+pub fn field_of(r: Reach<'_>) -> PredId
+    ensures { result.0 ≡ field_number (source_of r.source.now) r.field.0 }
+{
+    PredId(r.source.variables.len() as u32 + r.field.0)
+}
+
 /// `f(v, w)`, along the field.
 pub fn leading(r: Reach<'_>, v: u8, w: u8) -> Formula
     ensures { form_of result ≡ leads (source_of r.source.now) r.field.0 v w }
 {
-    let number = r.source.variables.len() as u32 + r.field.0;
-    Formula::Atom(PredId(number), Terms::Two(Var(v), Var(w)))
+    Formula::Atom(field_of(r), Terms::Two(Var(v), Var(w)))
 }
 
 /// `x(v)`

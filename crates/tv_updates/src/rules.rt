@@ -1,13 +1,13 @@
-//! The rules that what variables reach goes on along edges.
+//! The rules that what variables reach goes on along edges, and that a walk that ends leads back to nothing.
 
 ghost use Rattle.std.specs.Prelude.{◌≡◌, ◌<◌, ◌++◌, length, map, IfOk, OnOk};
 ghost use Rattle.tv_model.specs.Program.{rule_of};
 ghost use Rattle.tv_source.specs.Copies.{source_of};
 ghost use Rattle.tv_source.specs.Valid.{IsFieldOf};
 ghost use Rattle.tv_plang.specs.Limits.{HasFewNames};
-ghost use Rattle.tv_updates_laws.specs.Updated.{field_rules, reach_rule, reach_rules};
+ghost use Rattle.tv_updates_laws.specs.Updated.{end_rule, field_rules, reach_rule, reach_rules, variable_rules};
 
-use crate::formulas::{Reach, both, leading, number_of, reaching};
+use crate::formulas::{Reach, both, field_of, leading, negation, number_of, pointing, reaching, some};
 use std::alloc::{AllocError, Global};
 use tv_model::{Head, Items, PredId, Rule, Rules, Terms, Var};
 use tv_source::{FieldId, Source, VarId};
@@ -20,6 +20,28 @@ fn rule(alloc: Global, r: Reach<'_>) -> Result<Rule, AllocError>
         body: both(alloc, reaching(r, 0), leading(r, 0, 1))?,
         head: Head::Atom(true, PredId(number_of(r)), Terms::One(Var(1))),
     })
+}
+
+/// `r[f,x](v) & !(E(v_1) f(v, v_1)) & r[f,x](v_2) & x(v_3) ==> !f(v_2, v_3)`
+fn end_rule(alloc: Global, r: Reach<'_>) -> Result<Rule, AllocError>
+    ensures { IfOk result (λ c. rule_of c ≡ end_rule (source_of r.source.now) r.field.0 r.variable.0) }
+{
+    let goes_on = some(alloc, 1, leading(r, 0, 1))?;
+    let end = both(alloc, reaching(r, 0), negation(alloc, goes_on)?)?;
+    let last = both(alloc, end, reaching(r, 2))?;
+    Ok(Rule {
+        body: both(alloc, last, pointing(r.variable, 3))?,
+        head: Head::Atom(false, field_of(r), Terms::Two(Var(2), Var(3))),
+    })
+}
+
+/// Appends the rules of what the variable reaches.
+fn put_rules(alloc: Global, r: Reach<'_>, out: &mut Rules) -> Result<(), AllocError>
+    ensures { OnOk result (map rule_of out.new
+        ≡ map rule_of out.old ++ variable_rules (source_of r.source.now) r.field.0 r.variable.0) }
+{
+    out.push(rule(alloc, r)?)?;
+    out.push(end_rule(alloc, r)?)
 }
 
 /// Appends the rules of what each variable reaches along the field.
@@ -35,7 +57,7 @@ fn put_field(alloc: Global, source: &Source, f: u32, out: &mut Rules) -> Result<
             field: FieldId(f),
             variable: VarId(x),
         };
-        out.push(rule(alloc, r)?)?;
+        put_rules(alloc, r, out)?;
     }
     Ok(())
 }
