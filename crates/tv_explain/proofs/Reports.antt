@@ -14,9 +14,13 @@ reports_cover programs law held name text p mode initial listed lines (read, tak
     let its = taken.updated in (
       read.bytes.items,
       taken.content,
-      (read.tokens.list.items, taken.tokens, record {
-        source = its.source;
-        meant = its.meant;
-        covers = law its.source (program_of p) mode initial listed lines its.valid its.small (same ∙ its.is) covers;
-      }),
+      (
+        read.tokens.list.items,
+        taken.tokens,
+        record {
+          source = its.source;
+          meant = its.meant;
+          covers = law its.source (program_of p) mode initial listed lines its.valid its.small (same ∙ its.is) covers;
+        },
+      ),
     )

@@ -23,13 +23,18 @@ pub fn taken(alloc: Global, read: SourceText, updates: bool) -> Result<SourceTex
     if !updates {
         return Ok(read);
     }
+    let SourceText {
+        bytes,
+        tokens,
+        program: _plain,
+    } = read;
     // what was compiled is compiled again, unless memory runs out
-    let Ok(program) = compile_with_updates(alloc, &read.bytes, &read.tokens) else {
+    let Ok(program) = compile_with_updates(alloc, &bytes, &tokens) else {
         return Err(Fault::Memory);
     };
     Ok(SourceText {
-        bytes: read.bytes,
-        tokens: read.tokens,
+        bytes,
+        tokens,
         program,
     })
 }

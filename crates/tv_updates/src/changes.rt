@@ -210,11 +210,7 @@ fn clear_change(
 }
 
 /// What the statement makes of what the variable reaches, where this is said.
-pub fn change_of(
-    alloc: Global,
-    r: Reach<'_>,
-    assign: Assign,
-) -> Result<Option<Formula>, AllocError>
+pub fn change_of(alloc: Global, r: Reach<'_>, assign: Assign) -> Result<Option<Formula>, AllocError>
     requires declared { IsAssignOf (source_of r.source.now) (assign_of assign) }
     ensures { IfOk result (λ g. pre_of g
         ≡ reach_change (source_of r.source.now) (assign_of assign) r.field.0 r.variable.0) }

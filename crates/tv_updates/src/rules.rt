@@ -7,7 +7,9 @@ ghost use Rattle.tv_source.specs.Valid.{IsFieldOf};
 ghost use Rattle.tv_plang.specs.Limits.{HasFewNames};
 ghost use Rattle.tv_updates_laws.specs.Updated.{end_rule, field_rules, reach_rule, reach_rules, variable_rules};
 
-use crate::formulas::{Reach, both, field_of, leading, negation, number_of, pointing, reaching, some};
+use crate::formulas::{
+    Reach, both, field_of, leading, negation, number_of, pointing, reaching, some,
+};
 use std::alloc::{AllocError, Global};
 use tv_model::{Head, Items, PredId, Rule, Rules, Terms, Var};
 use tv_source::{FieldId, Source, VarId};

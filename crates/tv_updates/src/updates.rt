@@ -14,11 +14,7 @@ use tv_model::{Change, Formula, PredId, Terms, Update, Updates, Var};
 use tv_source::{Assign, FieldId, Source, VarId};
 
 /// Appends the update by the formula, where there is one.
-fn put_change(
-    r: Reach<'_>,
-    change: Option<Formula>,
-    out: &mut Updates,
-) -> Result<(), AllocError>
+fn put_change(r: Reach<'_>, change: Option<Formula>, out: &mut Updates) -> Result<(), AllocError>
     ensures { OnOk result (map update_of out.new ≡ map update_of out.old
         ++ sets_reach (source_of r.source.now) r.field.0 r.variable.0 (pre_of change)) }
 {
