@@ -409,8 +409,7 @@ fn flagged(command: Command, uses: usize) -> Option<Command>
             source,
             updates: on,
         }),
-        other if !on => Some(other),
-        _ => None,
+        other => { if on { None } else { Some(other) } }
     }
 }
 
