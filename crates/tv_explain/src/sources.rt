@@ -1,6 +1,7 @@
 //! Source programs with what they are compiled to.
 
-ghost use Rattle.std.specs.Prelude.{◌≡◌, ℕ, List, Option, IfErr, IfOk};
+ghost use Rattle.std.specs.Prelude.{◌≡◌, ◌≤◌, ℕ, List, Option, IfErr, IfOk, length};
+ghost use Rattle.tv_lex.specs.Bytes.{longest_text};
 ghost use Rattle.tv_explain.specs.Sources.{IsTakenText};
 ghost use Rattle.tv_explain.specs.declared.fault.Fault.TheVariants.{Memory};
 ghost use Rattle.tv_outside.specs.Told.{Held};
@@ -18,6 +19,7 @@ pub fn taken(alloc: Global, read: SourceText, updates: bool) -> Result<SourceTex
     requires { IsCompiled read }
     ensures taken { IfOk result (λ source. (told : Option Held) (name : List ℕ)
         → IsSourceText told name read → IsTakenText told updates name source) }
+    ensures size { IfOk result (λ source. length source.bytes.items ≤ longest_text) }
     ensures cause { IfErr result (λ fault. fault ≡ Memory) }
 {
     if !updates {
