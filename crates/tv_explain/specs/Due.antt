@@ -23,6 +23,7 @@ use Rattle.tv_work.specs.Reach.{AreMoreThan, IsReached}
 use Rattle.tv_explain.specs.Answers.{FilesMeanSuch, IsCompletionOf, IsUnwritten, compiled_lines}
 use Rattle.tv_explain.specs.Call.{Commands}
 use Rattle.tv_explain.specs.Meaning.{FilesMean, IsRefused, drawn_form}
+use Rattle.tv_explain.specs.Sources.{IsTakenText}
 use Rattle.tv_explain.specs.declared.fault.Ending.{Ending}
 use Rattle.tv_explain.specs.declared.fault.Ending.TheVariants.{As, Lost, Absent, NotWritten as Unwritable}
 use Rattle.tv_explain.specs.declared.fault.Sought.{Sought}
