@@ -1,5 +1,6 @@
 -- What a command answers, and what it gives no answer for.
-use Rattle.std.specs.Prelude.{ℕ, ◌≡◌, ◌⊎◌, ◌<◌, ◌≤◌, false, List, ◌++◌, Option, Some, Ok, length, slice_get}
+use Rattle.std.specs.Prelude.{ℕ, ◌≡◌, ◌⊎◌, ◌<◌, ◌≤◌, Bool, false, List, ◌++◌, Option, Some, Ok, length}
+use Rattle.std.specs.Prelude.{slice_get}
 use Rattle.std.specs.Prelude.{codes}
 use Rattle.std.specs.Prelude.{Any, Contains}
 use Rattle.std.specs.List.{AllZip}
@@ -84,9 +85,9 @@ IsStructureText of inputs node index text = (place : ℕ)
 -- ---- losses
 
 -- the answer is the report on what the analysis loses, and says whether it loses anything
-abbrev pub TellsOfLosses : AnalyzedForm → Inputs → Answer → Type 0
-TellsOfLosses of inputs answer =
-    IsLossReport (drawn_form inputs) (heads_in inputs) of.mode inputs.initial of.max
+abbrev pub TellsOfLosses : AnalyzedForm → (cases : Bool) → Inputs → Answer → Type 0
+TellsOfLosses of cases inputs answer =
+    IsLossReport inputs.drawn.program (heads_in inputs) of.mode cases inputs.initial of.max
     (record { text = answer.text; is_any = answer.is_lost })
 
 -- ---- compiled programs
@@ -152,7 +153,7 @@ IsText told (TellsMessage of edge number) text = (inputs : Inputs) × FilesMean 
     × IsMessageText of inputs edge number text
 IsText told (TellsStructure of node index) text = (inputs : Inputs) × FilesMean told of inputs
     × IsStructureText of inputs node index text
-IsText told (TellsLosses of) text = ⊥
+IsText told (TellsLosses of cases) text = ⊥
 IsText told (Compiles source) text =
     (read : SourceText) × IsSourceText told source read × IsCompiledText read text
 IsText told (TakesStep of edge) text = (inputs : Inputs) × FilesMean told of inputs
@@ -167,8 +168,8 @@ IsText told (Completes program structures) text = ReadsSuch told program structu
 -- The answer is what the command gives: of `losses` what the analysis loses; of each other a text, and that
 -- nothing is lost.
 abbrev pub IsAnswer : Option Held → CommandForm → Answer → Type 0
-IsAnswer told (TellsLosses of) answer = (inputs : Inputs) × FilesMean told of inputs
-    × TellsOfLosses of inputs answer
+IsAnswer told (TellsLosses of cases) answer = (inputs : Inputs) × FilesMean told of inputs
+    × TellsOfLosses of cases inputs answer
 IsAnswer told other answer = IsText told other answer.text.items × (answer.is_lost ≡ false)
 
 -- ---- limits, and what isn't there
@@ -191,10 +192,11 @@ NamesNothing (TellsStructure asked node index) of inputs sought.Structure = (pla
 NamesNothing (TakesStep asked edge) of inputs sought.Edge = length (drawn_form inputs).edges ≤ edge
 NamesNothing command of inputs other = ⊥
 
--- more structures are reached than may be listed; a step, and counts, have no such limit
+-- more structures are reached than may be listed; a step, counts and losses have no such limit
 abbrev pub PassesMost : CommandForm → AnalyzedForm → Inputs → Type 0
 PassesMost (TakesStep asked edge) of inputs = ⊥
 PassesMost (TellsCounts asked) of inputs = ⊥
+PassesMost (TellsLosses asked cases) of inputs = ⊥
 PassesMost command of inputs = AreMoreThan of.max (Reached of inputs)
 
 -- a step that the command takes meets the budget: that of a structure along the command's edge, of an
@@ -223,7 +225,8 @@ FilesMeanSuch told (TellsMessage of edge number) AreSuch =
     (inputs : Inputs) × FilesMean told of inputs × AreSuch of inputs
 FilesMeanSuch told (TellsStructure of node index) AreSuch =
     (inputs : Inputs) × FilesMean told of inputs × AreSuch of inputs
-FilesMeanSuch told (TellsLosses of) AreSuch = (inputs : Inputs) × FilesMean told of inputs × AreSuch of inputs
+FilesMeanSuch told (TellsLosses of cases) AreSuch =
+    (inputs : Inputs) × FilesMean told of inputs × AreSuch of inputs
 FilesMeanSuch told (Compiles source) AreSuch = ⊥
 FilesMeanSuch told (TakesStep of edge) AreSuch =
     (inputs : Inputs) × FilesMean told of inputs × AreSuch of inputs

@@ -1,6 +1,6 @@
 -- Which ending the words of a call and what its files hold call for.
-use Rattle.std.specs.Prelude.{ℕ, ◌≡◌, ◌⊎◌, ◌<◌, ◌≤◌, List, Option, Some, IsSome, Ok, Contains, length}
-use Rattle.std.specs.Prelude.{All, slice_get}
+use Rattle.std.specs.Prelude.{ℕ, ◌≡◌, ◌⊎◌, ◌<◌, ◌≤◌, Bool, List, Option, Some, IsSome, Ok, Contains}
+use Rattle.std.specs.Prelude.{All, length, slice_get}
 use Rattle.tv_lex.specs.Gather.{longest_gathered}
 use Rattle.tv_listing.specs.declared.analysis.Analysis.{Analysis}
 use Rattle.tv_losses.specs.Losses.{AreLosses}
@@ -62,6 +62,7 @@ KeepsReached of inputs =
 abbrev pub KeepsItsLimits : CommandForm → AnalyzedForm → Inputs → Type 0
 KeepsItsLimits (TakesStep asked edge) of inputs = KeepsEach edge inputs
 KeepsItsLimits (TellsCounts asked) of inputs = KeepsReached of inputs
+KeepsItsLimits (TellsLosses asked cases) of inputs = KeepsReached of inputs
 KeepsItsLimits command of inputs = IsWithinLimits of inputs
 
 -- wherever a node of this name stands, what the analysis lists there is such
@@ -70,10 +71,10 @@ ListsSuch of inputs node AreSuch =
     (place : ℕ) (structures : List StructureForm) → slice_get (drawn_form inputs).nodes place ≡ Some node
     → ListsAt (drawn_form inputs) of.mode inputs.initial of.max place structures → AreSuch structures
 
--- what the analysis loses is such
-abbrev pub LosesSuch : AnalyzedForm → Inputs → (Losses → Type 0) → Type 0
-LosesSuch of inputs AreSuch = (losses : Losses)
-    → AreLosses (drawn_form inputs) of.mode inputs.initial of.max losses → AreSuch losses
+-- whatever is found that the analysis loses is such
+abbrev pub LosesSuch : AnalyzedForm → (cases : Bool) → Inputs → (Losses → Type 0) → Type 0
+LosesSuch of cases inputs AreSuch = (losses : Losses)
+    → AreLosses (drawn_form inputs) of.mode cases inputs.initial of.max losses → AreSuch losses
 
 -- ---- answers and absences that are called for
 
@@ -107,8 +108,8 @@ CanAnswer told (TellsMessage of edge number) = (inputs : Inputs) × FilesMean to
 CanAnswer told (TellsStructure of node index) = (inputs : Inputs) × FilesMean told of inputs
     × IsWithinLimits of inputs × Contains (drawn_form inputs).nodes node
     × ListsSuch of inputs node (λ structures. index < length structures)
-CanAnswer told (TellsLosses of) = (inputs : Inputs) × FilesMean told of inputs
-    × IsWithinLimits of inputs × LosesSuch of inputs AreNone
+CanAnswer told (TellsLosses of cases) = (inputs : Inputs) × FilesMean told of inputs
+    × KeepsReached of inputs × LosesSuch of cases inputs AreNone
 CanAnswer told (Compiles source) = (read : SourceText) × IsSourceText told source read × CanBeWritten read
 CanAnswer told (TakesStep of edge) = (inputs : Inputs) × FilesMean told of inputs × KeepsEach edge inputs
     × (edge < length (drawn_form inputs).edges)
@@ -120,8 +121,8 @@ CanAnswer told (Completes program structures) = AreReadTogether told program str
 
 -- it is `losses`, of an analysis that loses something
 abbrev pub LosesSome : Option Held → CommandForm → Type 0
-LosesSome told (TellsLosses of) = (inputs : Inputs) × FilesMean told of inputs
-    × IsWithinLimits of inputs × LosesSuch of inputs (λ losses. ¬ AreNone losses)
+LosesSome told (TellsLosses of cases) = (inputs : Inputs) × FilesMean told of inputs
+    × KeepsReached of inputs × LosesSuch of cases inputs (λ losses. ¬ AreNone losses)
 LosesSome told other = ⊥
 
 -- the program has no edge of that number, or the edge's action no such message

@@ -1,5 +1,6 @@
+mod Answering
+mod Casing
 mod Exactly
 mod Losing
-mod Searching
+mod Ordering
 mod Telling
-mod Answering

@@ -1,4 +1,3 @@
-pub mod Cases
-pub mod Enabled
+pub mod Order
 pub mod Losses
 pub mod Tasks
