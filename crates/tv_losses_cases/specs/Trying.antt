@@ -10,7 +10,7 @@ use Rattle.tv_model.specs.Program.{ProgramForm, ActionForm, action_of, program_o
 use Rattle.tv_model.specs.Valid.{IsValid}
 use Rattle.tv_rules.specs.Closing.{closed_rules}
 use Rattle.tv_rules.specs.EntryForms.{rules_of}
-use Rattle.tv_structure_form.specs.StructureForm.{StructureForm, structure_of}
+use Rattle.tv_structure_form.specs.StructureForm.{IsOver, StructureForm, structure_of}
 use Rattle.tv_struct.specs.declared.analysis.StageError.{StageError}
 use Rattle.tv_struct.specs.declared.analysis.StageError.TheVariants.{Splits, Individuals, Memory}
 use Rattle.tv_update_laws.specs.Picks.{lists_of, passing_picks, picks_of}
@@ -53,6 +53,12 @@ pub record IsCandidateIn (x : Candidate) (engine : EngineForm) : Type 0 where
 -- what the action gives of it
 abbrev pub GivesOf : Candidate → ProgramForm → Mode → List StructureForm → Type 0
 GivesOf x p mode given = GivesStructures p mode (action_by x) x.from.now x.picked.now given
+
+-- the action gives these of it
+pub record IsTried (x : Candidate) (engine : EngineForm) (given : List StructureForm) : Type 0 where
+  pub candidate : IsCandidateIn x engine
+  pub gives : GivesOf x (program_of engine.program) engine.mode given
+  pub over : All (IsOver engine.program.vocab) given
 
 abbrev pub spot_action : Spot → ActionForm
 spot_action x = action_of x.action.now

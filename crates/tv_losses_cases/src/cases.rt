@@ -12,7 +12,7 @@ ghost use Rattle.tv_update_laws.specs.Picks.{picks_of};
 ghost use Rattle.tv_losses_laws.specs.Cases.{IsDroppedCase};
 ghost use Rattle.tv_losses_cases.specs.Cases.{cases_in, placed_at};
 ghost use Rattle.tv_losses_cases.specs.Tallies.{CountsMore, TellsOf};
-ghost use Rattle.tv_losses_cases.specs.Trying.{CountsCases, GivesOf, IsCandidateIn, IsListedPick, IsSpot};
+ghost use Rattle.tv_losses_cases.specs.Trying.{CountsCases, IsCandidateIn, IsListedPick, IsSpot, IsTried};
 ghost use Rattle.tv_losses_cases.specs.Trying.{IsTryCause, action_by, spot_action, case_by, sure_cases};
 
 use crate::candidate::Candidate;
@@ -29,9 +29,7 @@ fn lost_case(
     place: usize,
     given: Structures,
 ) -> Result<LostCase, StageError>
-    requires candidate { IsCandidateIn x.now trier.old }
-    requires given { GivesOf x.now (program_of trier.old.program) trier.old.mode given }
-    requires over { All (IsOver trier.old.program.vocab) given }
+    requires tried { IsTried x.now trier.old given }
     ensures told { IfOk result (TellsOf (program_of trier.old.program) trier.old.mode (action_by x.now)
         (placed_at place (case_by x.now))) }
     ensures cause { IfErr result (IsUpdateCause (action_by x.now) x.now.from.now
@@ -56,9 +54,7 @@ fn count_lost(
     given: Structures,
     tally: &mut Tally,
 ) -> Result<(), StageError>
-    requires candidate { IsCandidateIn x.now trier.old }
-    requires given { GivesOf x.now (program_of trier.old.program) trier.old.mode given }
-    requires over { All (IsOver trier.old.program.vocab) given }
+    requires tried { IsTried x.now trier.old given }
     requires lost { IsDroppedCase (program_of trier.old.program) trier.old.mode (action_by x.now)
         (case_by x.now) }
     ensures counts { OnOk result (CountsMore (program_of trier.old.program) trier.old.mode (action_by x.now)
@@ -82,9 +78,7 @@ fn count_given(
     given: Structures,
     tally: &mut Tally,
 ) -> Result<(), StageError>
-    requires candidate { IsCandidateIn x.now trier.old }
-    requires given { GivesOf x.now (program_of trier.old.program) trier.old.mode given }
-    requires over { All (IsOver trier.old.program.vocab) given }
+    requires tried { IsTried x.now trier.old given }
     ensures counts { OnOk result (CountsMore (program_of trier.old.program) trier.old.mode (action_by x.now)
         tally.old (placed_at place (case_by x.now) ∷ []) tally.new) }
     ensures cause { IfErr result (IsUpdateCause (action_by x.now) x.now.from.now
@@ -111,7 +105,8 @@ fn count_case(
         (picks_of (action_by x.now) x.now.picked.now)) }
     ensures same { trier.new ≡ trier.old }
 {
-    let given = trier.own_given(x)?;
+    let mode = trier.mode();
+    let given = trier.given(x, mode)?;
     count_given(trier, x, place, given, tally)
 }
 

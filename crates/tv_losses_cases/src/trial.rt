@@ -1,19 +1,17 @@
 //! The claim that a lost case breaks, found out.
 
-ghost use Rattle.std.specs.Prelude.{◌≡◌, ◌<◌, ◌↔◌, All, IsTrue, IfOk, IfErr, IfSome, IfNone, None, length};
+ghost use Rattle.std.specs.Prelude.{◌≡◌, ◌<◌, ◌↔◌, IsTrue, IfOk, IfErr, IfSome, IfNone, None, length};
 ghost use Rattle.tv_model.specs.Program.{action_of, program_of};
 ghost use Rattle.tv_model.specs.declared.program.Mode.TheVariants.{Recompute};
-ghost use Rattle.tv_structure_form.specs.StructureForm.{IsOver};
 ghost use Rattle.tv_update.specs.Update.{IsUpdateCause};
 ghost use Rattle.tv_update_laws.specs.Applied.{kind_at};
 ghost use Rattle.tv_update_laws.specs.Picks.{picks_of};
 ghost use Rattle.tv_losses_laws.specs.Cases.{IsDroppedCase};
 ghost use Rattle.tv_losses_laws.specs.Declared.{IsDroppedBy};
-ghost use Rattle.tv_losses_laws.specs.Updated.{IsDroppedByUpdate};
 ghost use Rattle.tv_losses_unmet.specs.Unmet.{IsFirstOf};
 ghost use Rattle.tv_losses_cases.specs.Blames.{IsBlamed, IsDropping, NoUpdateDrops, UpdatesAt};
 ghost use Rattle.tv_losses_cases.specs.Blames.{has_definition};
-ghost use Rattle.tv_losses_cases.specs.Trying.{GivesOf, IsCandidateIn, action_by, case_by};
+ghost use Rattle.tv_losses_cases.specs.Trying.{IsCandidateIn, IsTried, action_by, case_by};
 ghost use Rattle.tv_losses_cases.specs.declared.blame.Blame.TheVariants.{Update as OfUpdate};
 
 use crate::blame::Blame;
@@ -60,23 +58,7 @@ impl<'a> Trier<'a> {
         Ok(self.are_dropped(given.as_slice())?)
     }
 
-    /// Whether they do where of all these updates only that of `q` counts.
-    fn update_drops(&mut self, x: &Candidate, q: PredId) -> Result<bool, StageError>
-        requires { IsCandidateIn x.now self.old }
-        ensures drops { IfOk result (λ drops. IsTrue drops
-            ↔ IsDroppedByUpdate (program_of self.old.program) (action_by x.now) (case_by x.now) q.0) }
-        ensures cause { IfErr result (IsUpdateCause (action_by x.now) x.now.from.now
-            (picks_of (action_by x.now) x.now.picked.now)) }
-        ensures same { self.new ≡ self.old }
-    {
-        let alloc = self.alloc();
-        let made = with_core(alloc, self.program(), q)?;
-        let mut scratch = Scratch::new(alloc, &made, 256)?;
-        let given = given_by(alloc, &made, Mode::Recompute, x, &mut scratch)?;
-        Ok(self.are_dropped(given.as_slice())?)
-    }
-
-    /// Whether the predicate has a definition, and they do.
+    /// Whether the predicate has a definition, and they do where of all these updates only that of it counts.
     fn drops_by(&mut self, x: &Candidate, q: PredId) -> Result<bool, StageError>
         requires { IsCandidateIn x.now self.old }
         ensures drops { IfOk result (λ drops. IsTrue drops
@@ -85,10 +67,15 @@ impl<'a> Trier<'a> {
             (picks_of (action_by x.now) x.now.picked.now)) }
         ensures same { self.new ≡ self.old }
     {
-        if !is_defined(self.program(), q) {
+        let alloc = self.alloc();
+        let program = self.program();
+        if !is_defined(program, q) {
             return Ok(false);
         }
-        self.update_drops(x, q)
+        let made = with_core(alloc, program, q)?;
+        let mut scratch = Scratch::new(alloc, &made, 256)?;
+        let given = given_by(alloc, &made, Mode::Recompute, x, &mut scratch)?;
+        Ok(self.are_dropped(given.as_slice())?)
     }
 
     /// The first given update that alone drops all, by its predicate, where without given updates something
@@ -122,9 +109,7 @@ impl<'a> Trier<'a> {
         given: &[Structure],
         together: Blame,
     ) -> Result<Blame, StageError>
-        requires candidate { IsCandidateIn x.now self.old }
-        requires given { GivesOf x.now (program_of self.old.program) self.old.mode given.now }
-        requires over { All (IsOver self.old.program.vocab) given.now }
+        requires tried { IsTried x.now self.old given.now }
         requires no_update { NoUpdateDrops (program_of self.old.program) (action_by x.now) (case_by x.now) }
         requires together { IsFirstOf (IsDroppedBy (program_of self.old.program) self.old.mode (action_by x.now)
             (case_by x.now)) None → IsBlamed (program_of self.old.program) self.old.mode (action_by x.now)
@@ -141,31 +126,9 @@ impl<'a> Trier<'a> {
         }
     }
 
-    /// The claim of a lost case, of which the action gives these, where without given updates something would
-    /// be left.
-    fn blame_needed(&mut self, x: &Candidate, given: &[Structure]) -> Result<Blame, StageError>
-        requires candidate { IsCandidateIn x.now self.old }
-        requires given { GivesOf x.now (program_of self.old.program) self.old.mode given.now }
-        requires over { All (IsOver self.old.program.vocab) given.now }
-        requires needed { ¬ IsDroppedCase (program_of self.old.program) Recompute (action_by x.now)
-            (case_by x.now) }
-        ensures blame { IfOk result (IsBlamed (program_of self.old.program) self.old.mode (action_by x.now)
-            (case_by x.now)) }
-        ensures cause { IfErr result (IsUpdateCause (action_by x.now) x.now.from.now
-            (picks_of (action_by x.now) x.now.picked.now)) }
-        ensures same { self.new ≡ self.old }
-    {
-        match self.dropping_update(x)? {
-            Some(q) => Ok(Blame::Update(q)),
-            None => self.blame_declaration(x, given, Blame::Updates),
-        }
-    }
-
     /// The claim of a lost case, of which the action gives these.
     pub(crate) fn blame(&mut self, x: &Candidate, given: &[Structure]) -> Result<Blame, StageError>
-        requires candidate { IsCandidateIn x.now self.old }
-        requires given { GivesOf x.now (program_of self.old.program) self.old.mode given.now }
-        requires over { All (IsOver self.old.program.vocab) given.now }
+        requires tried { IsTried x.now self.old given.now }
         ensures blame { IfOk result (IsBlamed (program_of self.old.program) self.old.mode (action_by x.now)
             (case_by x.now)) }
         ensures cause { IfErr result (IsUpdateCause (action_by x.now) x.now.from.now
@@ -175,6 +138,9 @@ impl<'a> Trier<'a> {
         if self.is_lost_anyway(x)? {
             return self.blame_declaration(x, given, Blame::Declarations);
         }
-        self.blame_needed(x, given)
+        match self.dropping_update(x)? {
+            Some(q) => Ok(Blame::Update(q)),
+            None => self.blame_declaration(x, given, Blame::Updates),
+        }
     }
 }

@@ -197,17 +197,4 @@ impl<'a> Trier<'a> {
         let program = self.program;
         given_by(self.alloc, program, mode, x, &mut self.scratch)
     }
-
-    /// That in its own mode.
-    pub(crate) fn own_given(&mut self, x: &Candidate) -> Result<Structures, StageError>
-        requires { IsCandidateIn x.now self.old }
-        ensures given { IfOk result (GivesOf x.now (program_of self.old.program) self.old.mode) }
-        ensures over { IfOk result (All (IsOver self.old.program.vocab)) }
-        ensures cause { IfErr result (IsUpdateCause (action_by x.now) x.now.from.now
-            (picks_of (action_by x.now) x.now.picked.now)) }
-        ensures same { self.new ≡ self.old }
-    {
-        let mode = self.mode();
-        self.given(x, mode)
-    }
 }

@@ -241,11 +241,11 @@ const CASES: [Row; 1] = [(
     "%n = {a, b} %p = { x = {b} y = {a, b} }",
     "edge 0 loses 2 of 2 cases, first structure 0, by rule 1  e0
 case of structure 0, by rule 1
-case   at hand  (y)  (x&y)
-case   given 0  (y)  (x&y)  [c]
+case   at hand  (#0&y)  (x&y)
+case   given 0  (#0&y)  (x&y)  c
 case of structure 0, by rule 0
-case   at hand  (y)  (x&y)
-case   given 0  (y)  (x&y)  [b]
+case   at hand  (#0&y)  (x&y)
+case   given 0  (#0&y)  (x&y)  b
 node L2 isn't reached
 ",
 )];

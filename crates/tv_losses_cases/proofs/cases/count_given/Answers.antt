@@ -8,7 +8,7 @@ use Rattle.tv_structure_form.specs.StructureForm.{IsOver, StructureForm}
 use Rattle.tv_losses_laws.specs.Cases.{IsDroppedCase}
 use Rattle.tv_losses_cases.specs.Cases.{placed_at}
 use Rattle.tv_losses_cases.specs.Tallies.{CountsMore}
-use Rattle.tv_losses_cases.specs.Trying.{GivesOf, IsCandidateIn, action_by, case_by}
+use Rattle.tv_losses_cases.specs.Trying.{IsTried, action_by, case_by}
 use Rattle.tv_losses_cases.proofs.Counting.{kept-counts}
 use Rattle.tv_losses_cases.proofs.Dropping.{dropped-is}
 use Rattle.tv_losses_cases.proofs.cases.count_given.Goals as goal
@@ -25,25 +25,15 @@ returns-then-not-branch-clause-counts c =
     let on = c.in_ok-are_dropped.field-0 in
     let is = dropped-is p c.requires.candidate.valid (action_by x)
     (slice_get-contains p.actions x.number (action_by x) c.requires.candidate.its) x.from.now x.picked.now
-    c.requires.candidate.listed e.mode c.args.given on c.requires.given
+    c.requires.candidate.listed e.mode c.args.given on c.requires.gives
     (subst (λ (ts : List StructureForm). IsTrue on ↔ All (HasNoOpening p) ts) c.as_slice.ensures
     c.in_ok-are_dropped.ensures.dropped) in
     kept-counts p e.mode (action_by x) c.args.tally.now c.keep.new.self (placed_at c.args.place (case_by x))
     (λ lost. true≢false (sym (is.1 lost) ∙ c.if-not-branch.true)) c.in_ok-keep.ensures
 
-pub count_lost-requires-clause-candidate : goal.count_lost-requires-clause-candidate
-count_lost-requires-clause-candidate c =
-    subst (IsCandidateIn c.args.x.now) (sym c.are_dropped.ensures.same) c.requires.candidate
-
-pub count_lost-requires-clause-given : goal.count_lost-requires-clause-given
-count_lost-requires-clause-given c =
-    subst (λ (e : EngineForm). GivesOf c.args.x.now (program_of e.program) e.mode c.args.given)
-    (sym c.are_dropped.ensures.same) c.requires.given
-
-pub count_lost-requires-clause-over : goal.count_lost-requires-clause-over
-count_lost-requires-clause-over c =
-    subst (λ (e : EngineForm). All (IsOver e.program.vocab) c.args.given) (sym c.are_dropped.ensures.same)
-    c.requires.over
+pub count_lost-requires-clause-tried : goal.count_lost-requires-clause-tried
+count_lost-requires-clause-tried c =
+    subst (λ (e : EngineForm). IsTried c.args.x.now e c.args.given) (sym c.are_dropped.ensures.same) c.requires
 
 pub count_lost-requires-clause-lost : goal.count_lost-requires-clause-lost
 count_lost-requires-clause-lost c =
@@ -53,7 +43,7 @@ count_lost-requires-clause-lost c =
     let on = c.in_ok-are_dropped.field-0 in
     let is = dropped-is p c.requires.candidate.valid (action_by x)
     (slice_get-contains p.actions x.number (action_by x) c.requires.candidate.its) x.from.now x.picked.now
-    c.requires.candidate.listed e.mode c.args.given on c.requires.given
+    c.requires.candidate.listed e.mode c.args.given on c.requires.gives
     (subst (λ (ts : List StructureForm). IsTrue on ↔ All (HasNoOpening p) ts) c.as_slice.ensures
     c.in_ok-are_dropped.ensures.dropped) in
     subst (λ (f : EngineForm). IsDroppedCase (program_of f.program) f.mode (action_by x) (case_by x))
