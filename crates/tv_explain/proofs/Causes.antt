@@ -10,7 +10,7 @@ use Rattle.tv_compiled_laws.specs.Laws.{CompiledTextsArePrograms, MeansInFiles}
 use Rattle.tv_texts.specs.Sources.{IsSourceText}
 use Rattle.tv_texts.specs.declared.source.SourceText.{SourceText}
 use Rattle.tv_lex.specs.Gather.{longest_gathered}
-use Rattle.tv_work.specs.Stopped.{IsStepsCause}
+use Rattle.tv_losses.specs.Losses.{IsLossCause}
 use Rattle.tv_model.specs.declared.program.Program.{Program}
 use Rattle.tv_outside.specs.Told.{Held, HoldsName}
 use Rattle.tv_status.specs.declared.status.FileKind.{FileKind}
@@ -53,6 +53,7 @@ use Rattle.tv_explain.specs.declared.inputs.Drawn.{Drawn}
 use Rattle.tv_explain.specs.declared.inputs.Inputs.{Inputs}
 use Rattle.tv_explain_words.specs.Words.{AnalyzedForm, CommandForm, Shows, TellsLosses, TellsMessage}
 use Rattle.tv_explain_words.specs.Words.{Compiles, TellsStructure, TakesStep, TellsCounts, Completes, Spells}
+use Rattle.tv_explain_words.specs.declared.words.LossOptions.{LossOptions}
 
 -- ---- counts and steadiness
 
@@ -295,10 +296,10 @@ plain_cause P (Err e) h = h
 -- ---- losses
 
 -- why losses aren't told stops the command
-pub losses_stop : (of : AnalyzedForm) (cases : Bool) (inputs : Inputs) (e : WorkError)
-    → IsStepsCause (drawn_form inputs) (Reached of inputs) e
-    → IsStopped (TellsLosses of cases) of inputs (fault_of_work of.max e)
-losses_stop of cases inputs work.Structures cause = absurd cause
-losses_stop of cases inputs work.Splits cause = cause
-losses_stop of cases inputs work.Individuals cause = cause
-losses_stop of cases inputs work.Memory cause = tt
+pub losses_stop : (of : AnalyzedForm) (how : LossOptions) (inputs : Inputs) (e : WorkError)
+    → IsLossCause (drawn_form inputs) of.mode inputs.initial of.max how.join e
+    → IsStopped (TellsLosses of how) of inputs (fault_of_work of.max e)
+losses_stop of how inputs work.Structures cause = (refl, cause)
+losses_stop of how inputs work.Splits cause = cause
+losses_stop of how inputs work.Individuals cause = cause
+losses_stop of how inputs work.Memory cause = tt

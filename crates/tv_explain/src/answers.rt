@@ -24,7 +24,7 @@ use crate::question::Question;
 use std::alloc::{AllocError, Global};
 use tv_counts::counts_text;
 use tv_explain_text::{Told, append_alarm, messages_at, trail_text};
-use tv_explain_words::Analyzed;
+use tv_explain_words::{Analyzed, LossOptions};
 use tv_losses::Asked;
 use tv_losses_text::explain_losses;
 use tv_model::{Bytes, Message};
@@ -240,24 +240,25 @@ fn counts_answer(alloc: Global, inputs: &Inputs, of: &Analyzed) -> Result<Vec<u8
     }
 }
 
-/// What the analysis loses: all lost cases, or the first of each edge alone.
+/// What the analysis loses, or the joined one: all lost cases, or the first of each edge alone.
 fn losses_answer(
     alloc: Global,
     inputs: &Inputs,
     of: &Analyzed,
-    cases: bool,
+    how: LossOptions,
 ) -> Result<Answer, Fault>
     requires { AreReady inputs.now }
-    ensures found { IfOk result (TellsOfLosses (analyzed_of of.now) cases inputs.now) }
+    ensures found { IfOk result (TellsOfLosses (analyzed_of of.now) how inputs.now) }
     ensures cause { IfErr result
-        (IsStopped (TellsLosses (analyzed_of of.now) cases) (analyzed_of of.now) inputs.now) }
+        (IsStopped (TellsLosses (analyzed_of of.now) how) (analyzed_of of.now) inputs.now) }
 {
     let asked = Asked {
         program: &inputs.drawn.program,
         initial: &inputs.initial,
         mode: of.mode,
         max: of.max,
-        all: cases,
+        all: how.cases,
+        joined: how.join,
     };
     match explain_losses(alloc, &asked, &inputs.drawn.heads) {
         Err(error) => Err(fault_of_work(error, of.max)),
@@ -285,7 +286,7 @@ pub fn answer(
         Question::Structure { node, index } => plain(structure_text(
             alloc, inputs, of, node, index,
         )),
-        Question::Losses { cases } => losses_answer(alloc, inputs, of, cases),
+        Question::Losses { how } => losses_answer(alloc, inputs, of, how),
         Question::Step { edge } => plain(step_answer(alloc, inputs, of, edge)),
         Question::Counts => plain(counts_answer(alloc, inputs, of)),
     }

@@ -20,7 +20,8 @@ use Rattle.tv_explain_words.specs.Words.{AnalyzedForm, CommandForm, Shows, Lists
 use Rattle.tv_explain_words.specs.Words.{TellsStructure, TellsLosses, Compiles, HasOptions, IsNumber}
 use Rattle.tv_explain_words.specs.Words.{TakesStep, TellsPlan, TellsCounts, Completes, IsPlain, Says}
 use Rattle.tv_explain_words.specs.Words.{HasOwn, IsSaid, NoneSaid, Spells, SpellsNothing, command_word, form_of}
-use Rattle.tv_explain_words.specs.Words.{flag_uses, is_own, others_of, plain_of, with_flags}
+use Rattle.tv_explain_words.specs.Words.{flag_uses, is_own, no_options, others_of, plain_of, with_flags}
+use Rattle.tv_explain_words.specs.declared.words.LossOptions.{LossOptions}
 use Rattle.tv_explain_words.specs.declared.words.Command.{Command}
 
 -- lines that are alike say the same
@@ -38,7 +39,7 @@ module _ (a b : LineForm) (alike : AreAlike a b) where
   same_said (TellsMessage of edge number) h =
       (h.0, h.1, sym alike.operands ∙ h.2, same_options of h.3, h.4, h.5)
   same_said (TellsStructure of node index) h = (h.0, sym alike.operands ∙ h.1, same_options of h.2, h.3)
-  same_said (TellsLosses of cases) h = (sym alike.operands ∙ h.0, same_options of h.1, h.2)
+  same_said (TellsLosses of how) h = (sym alike.operands ∙ h.0, same_options of h.1, h.2)
   same_said (Compiles source) h = (sym alike.operands ∙ h.0, same_plain h.1)
   same_said (TakesStep of edge) h =
       (h.0, sym alike.operands ∙ h.1, same_options of h.2, sym alike.max ∙ h.3, h.4)
@@ -97,7 +98,7 @@ one_said line (TellsStructure of node index) (TellsStructure of' node' index') n
     let same = one_asked line of of' (ap (operand 0) names) (ap (operand 1) names) a.2 b.2 in
     let places = one_number a.0 b.0 index index' (ap (operand 3) names) a.3 b.3 in
     λ i. TellsStructure (same i) (operand 2 (names i)) (places i)
-one_said line (TellsLosses of cases) (TellsLosses of' cases') named a b =
+one_said line (TellsLosses of how) (TellsLosses of' how') named a b =
     let names : of.program ∷ of.initial ∷ [] ≡ of'.program ∷ of'.initial ∷ [] = sym a.0 ∙ b.0 in
     let same = one_asked line of of' (ap (operand 0) names) (ap (operand 1) names) a.1 b.1 in
     let all = a.2 ∙ sym b.2 in
@@ -127,43 +128,46 @@ one_said line a b named x y =
 -- ---- own flags
 
 word_plain : (command : CommandForm) → command_word (plain_of command) ≡ command_word command
-word_plain (TellsLosses of cases) = refl
+word_plain (TellsLosses of how) = refl
 word_plain other = refl
 
-word_own : (cases : Bool) (command : CommandForm) → command_word (with_flags cases command) ≡ command_word command
-word_own cases (TellsLosses of c) = refl
-word_own cases other = refl
+word_own : (how : LossOptions) (command : CommandForm) → command_word (with_flags how command) ≡ command_word command
+word_own how (TellsLosses of h) = refl
+word_own how other = refl
 
 -- what a line says has no own flag
-plain_own : (line : LineForm) (cases : Bool) (command : CommandForm) → Says line command
-    → plain_of (with_flags cases command) ≡ command
-plain_own line cases (TellsLosses of c) says = λ i. TellsLosses of (sym says.2 i)
-plain_own line cases other says = refl
+plain_own : (line : LineForm) (how : LossOptions) (command : CommandForm) → Says line command
+    → plain_of (with_flags how command) ≡ command
+plain_own line how (TellsLosses of h) says = λ i. TellsLosses of (sym says.2 i)
+plain_own line how other says = refl
 
 is_losses : CommandForm → Bool
-is_losses (TellsLosses of cases) = true
+is_losses (TellsLosses of how) = true
 is_losses other = false
 
-cases_of : CommandForm → Bool
-cases_of (TellsLosses of cases) = cases
-cases_of other = false
+options_of : CommandForm → LossOptions
+options_of (TellsLosses of how) = how
+options_of other = no_options
 
-own_is : (command : CommandForm) → command ≡ with_flags (cases_of command) (plain_of command)
-unfolding cases_of
-own_is (TellsLosses of cases) = refl
+own_is : (command : CommandForm) → command ≡ with_flags (options_of command) (plain_of command)
+unfolding options_of
+own_is (TellsLosses of how) = refl
 own_is other = refl
 
 losses_plain : (command : CommandForm) → is_losses (plain_of command) ≡ is_losses command
 unfolding is_losses
-losses_plain (TellsLosses of cases) = refl
+losses_plain (TellsLosses of how) = refl
 losses_plain other = refl
 
 same_own : (words : List (List ℕ)) (a b : CommandForm) → is_losses a ≡ is_losses b → HasOwn words a → HasOwn words b
-    → cases_of a ≡ cases_of b
-unfolding is_losses cases_of
-same_own words (TellsLosses of cases) (TellsLosses of' cases') kinds x y = one_bool cases cases' (sym x ∙ y)
-same_own words (TellsLosses of cases) other kinds x y = absurd (true≢false kinds)
-same_own words other (TellsLosses of cases) kinds x y = absurd (true≢false (sym kinds))
+    → options_of a ≡ options_of b
+unfolding is_losses options_of
+same_own words (TellsLosses of how) (TellsLosses of' how') kinds x y =
+    let cases = one_bool how.cases how'.cases (sym x.0 ∙ y.0) in
+    let joins = one_bool how.join how'.join (sym x.1 ∙ y.1) in
+    λ i. record { cases = cases i; join = joins i }
+same_own words (TellsLosses of how) other kinds x y = absurd (true≢false kinds)
+same_own words other (TellsLosses of how) kinds x y = absurd (true≢false (sym kinds))
 same_own words other more kinds x y = refl
 
 one_own : (words : List (List ℕ)) (a b : CommandForm) → plain_of a ≡ plain_of b → HasOwn words a → HasOwn words b
@@ -171,7 +175,7 @@ one_own : (words : List (List ℕ)) (a b : CommandForm) → plain_of a ≡ plain
 one_own words a b plains x y =
     let kinds : is_losses a ≡ is_losses b = sym (losses_plain a) ∙ ap is_losses plains ∙ losses_plain b in
     let same = same_own words a b kinds x y in
-    let between : with_flags (cases_of a) (plain_of a) ≡ with_flags (cases_of b) (plain_of b)
+    let between : with_flags (options_of a) (plain_of a) ≡ with_flags (options_of b) (plain_of b)
     = λ i. with_flags (same i) (plains i) in
     own_is a ∙ between ∙ sym (own_is b)
 
@@ -231,14 +235,14 @@ module _ (name : List ℕ) (words rest : List (List ℕ)) (whole : words ≡ nam
 
     module _ (command : CommandForm) (said : IsSaid name (told_line m) command) where
       pub spelled : (found : Option Command)
-          → IfSome found (λ x. (cases : Bool) × (form_of x ≡ with_flags cases command) × HasOwn rest (form_of x))
+          → IfSome found (λ x. (how : LossOptions) × (form_of x ≡ with_flags how command) × HasOwn rest (form_of x))
           → IfSome found (λ x. Spells words (form_of x))
       spelled None given = given
-      spelled (Some x) (cases, is, own) =
+      spelled (Some x) (how, is, own) =
           let word : command_word (form_of x) ≡ name
-          = ap command_word is ∙ word_own cases command ∙ said.0 in
+          = ap command_word is ∙ word_own how command ∙ said.0 in
           let plain : plain_of (form_of x) ≡ command
-          = ap plain_of is ∙ plain_own (told_line m) cases command said.1 in (
+          = ap plain_of is ∙ plain_own (told_line m) how command said.1 in (
             rest,
             whole ∙ ap (λ n. n ∷ rest) (sym word),
             record {
@@ -252,16 +256,16 @@ module _ (name : List ℕ) (words rest : List (List ℕ)) (whole : words ≡ nam
           )
 
       pub unflagged : (found : Option Command)
-          → IfNone found ((cases : Bool) → ¬ HasOwn rest (with_flags cases command))
+          → IfNone found ((how : LossOptions) → ¬ HasOwn rest (with_flags how command))
           → IfNone found (SpellsNothing words)
       unflagged (Some x) none = none
       unflagged None none = λ other spells.
           let also = said_of other spells in
           let same : plain_of other ≡ command
           = one_said (told_line m) (plain_of other) command (also.0 ∙ sym said.0) also.1 said.1 in
-          let is : other ≡ with_flags (cases_of other) command
-          = own_is other ∙ ap (with_flags (cases_of other)) same in
-          none (cases_of other)
+          let is : other ≡ with_flags (options_of other) command
+          = own_is other ∙ ap (with_flags (options_of other)) same in
+          none (options_of other)
           (subst (HasOwn rest) is
           (subst (λ ws. HasOwn ws other) (behind_name other spells.0 spells.1).1 spells.2.own))
 

@@ -8,6 +8,7 @@ ghost use Rattle.tv_words.specs.Words.{once, words_of};
 ghost use Rattle.tv_explain_words.specs.Words.{IsNumber, IsSaid, NoneSaid, Spells, SpellsNothing, SaidOf};
 ghost use Rattle.tv_explain_words.specs.Words.{AsksNothing, IsAsked, analyzed_of, form_of, is_own, others_of};
 ghost use Rattle.tv_explain_words.specs.Words.{HasOwn, flag_uses, with_flags};
+ghost use Rattle.tv_explain_words.specs.declared.words.LossOptions.{LossOptions};
 
 use itoa::Buffer;
 use std::alloc::{AllocError, Global};
@@ -26,6 +27,14 @@ pub struct Analyzed {
     pub max: u64,
     pub mode: Mode,
     pub delta: bool,
+}
+
+/// How losses are told: with `cases` each lost case, else of each edge the first; with `join` those of the joined
+/// analysis.
+#[derive(Clone, Copy, Debug)]
+pub struct LossOptions {
+    pub cases: bool,
+    pub join: bool,
 }
 
 /// What the words ask for. Files are told by their names, as the words give them.
@@ -53,10 +62,10 @@ pub enum Command {
         node: String,
         index: u32,
     },
-    /// Writes what the analysis loses; with `cases` each lost case, else of each edge the first.
+    /// Writes what the analysis loses.
     Losses {
         of: Analyzed,
-        cases: bool,
+        how: LossOptions,
     },
     /// Writes the program that a source program is compiled to.
     Compiled {
@@ -228,7 +237,11 @@ fn losses(alloc: Global, line: &Line<'_, '_>) -> Result<Option<Command>, AllocEr
     let Some(of) = asked(alloc, line, program, initial)? else {
         return Ok(None);
     };
-    Ok(Some(Command::Losses { of, cases: false }))
+    let how = LossOptions {
+        cases: false,
+        join: false,
+    };
+    Ok(Some(Command::Losses { of, how }))
 }
 
 /// The command of the name `compiled` that the line says.
@@ -341,11 +354,11 @@ fn said(alloc: Global, name: &str, line: &Line<'_, '_>) -> Result<Option<Command
     }
 }
 
-/// Whether the word is the own flag of the command of this name.
+/// Whether the word is an own flag of the command of this name.
 fn is_own(name: &str, word: &str) -> bool
     ensures { result ≡ is_own name.now word.now }
 {
-    name == "losses" && word == "--cases"
+    name == "losses" && (word == "--cases" || word == "--join")
 }
 
 /// Puts the word behind the others, unless it is to be passed over.
@@ -359,7 +372,7 @@ fn push_unless(others: &mut Vec<String>, passed: bool, word: String) -> Result<(
     Ok(others.push(word)?)
 }
 
-/// The words but for the own flag of the command of this name.
+/// The words but for own flags of the command of this name.
 fn others_of(alloc: Global, name: &str, words: &[String]) -> Result<Vec<String>, AllocError>
     ensures { IfOk result (λ others. words_of others.items ≡ others_of name.now (words_of words.now)) }
 {
@@ -404,17 +417,19 @@ fn flag_in(flag: &str, words: &[String]) -> Option<bool>
     }
 }
 
-/// The command with the own flag, if that stands among the words.
+/// The command with those of its own flags that stand among the words.
 fn flagged(command: Command, words: &[String]) -> Option<Command>
-    ensures some { IfSome result (λ found. (cases : Bool)
-        × (form_of found ≡ with_flags cases (form_of command)) × HasOwn (words_of words.now) (form_of found)) }
-    ensures none { IfNone result ((cases : Bool)
-        → ¬ HasOwn (words_of words.now) (with_flags cases (form_of command))) }
+    ensures some { IfSome result (λ found. (how : LossOptions)
+        × (form_of found ≡ with_flags how (form_of command)) × HasOwn (words_of words.now) (form_of found)) }
+    ensures none { IfNone result ((how : LossOptions)
+        → ¬ HasOwn (words_of words.now) (with_flags how (form_of command))) }
 {
     match command {
         Command::Losses { of, .. } => {
             let cases = flag_in("--cases", words)?;
-            Some(Command::Losses { of, cases })
+            let join = flag_in("--join", words)?;
+            let how = LossOptions { cases, join };
+            Some(Command::Losses { of, how })
         }
         other => Some(other),
     }

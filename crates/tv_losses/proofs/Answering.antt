@@ -7,6 +7,9 @@ use Rattle.std.specs.Prelude.{Any, IfOk}
 use Rattle.tv_model.specs.declared.program.Mode.{Mode}
 use Rattle.tv_model.specs.declared.program.Program.{Program}
 use Rattle.tv_model.specs.Program.{ProgramForm, program_of}
+use Rattle.tv_join.specs.Joined.{IsJoinCause}
+use Rattle.tv_join.specs.Rounds.{IsInRound}
+use Rattle.tv_lemmas.proofs.Options.{IfErr-weaker}
 use Rattle.tv_listing.specs.ListingForm.{at_node}
 use Rattle.tv_structure_form.specs.StructureForm.{StructureForm, IsOver}
 use Rattle.tv_step_laws.specs.Shaped.{IsShaped}
@@ -18,7 +21,7 @@ use Rattle.tv_work.specs.Reach.{IsDerivation, IsListed, IsReached, IsReachedWith
 use Rattle.tv_work.specs.Stopped.{IsStepsCause}
 use Rattle.tv_work.specs.declared.error.WorkError.{WorkError}
 use Rattle.tv_work.specs.declared.error.WorkError.TheVariants.{Structures, Splits, Individuals, Memory}
-use Rattle.tv_losses.specs.Losses.{AreLosses, AreLossesIn, IsLossListing}
+use Rattle.tv_losses.specs.Losses.{AreLosses, AreLossesIn, IsLossCause, IsLossListing}
 use Rattle.tv_losses.specs.declared.told.Losses.{Losses}
 
 -- ---- what is listed where the analysis stops is over the program
@@ -76,29 +79,56 @@ steps-weaker p P Q weaker Splits cause = meets-weaker p _ P Q weaker cause
 steps-weaker p P Q weaker Individuals cause = meets-weaker p _ P Q weaker cause
 steps-weaker p P Q weaker Memory cause = cause
 
+-- of the reached points
+pub reached-cause : (p : ProgramForm) (mode : Mode) (initial : List StructureForm) (max : ℕ) (e : WorkError)
+    → IsStepsCause p (IsReached p mode initial) e → IsLossCause p mode initial max false e
+reached-cause p mode initial max Structures cause = absurd cause
+reached-cause p mode initial max Splits cause = cause
+reached-cause p mode initial max Individuals cause = cause
+reached-cause p mode initial max Memory cause = tt
+
+-- of the rounds
+pub rounds-cause : (p : ProgramForm) (mode : Mode) (initial : List StructureForm) (max : ℕ) (e : WorkError)
+    → IsJoinCause p mode initial max e → IsLossCause p mode initial max true e
+rounds-cause p mode initial max Structures cause = cause
+rounds-cause p mode initial max Splits cause = cause
+rounds-cause p mode initial max Individuals cause = cause
+rounds-cause p mode initial max Memory cause = tt
+
+-- of one of them
+round-cause : (p : ProgramForm) (mode : Mode) (initial : List StructureForm) (max round : ℕ) (e : WorkError)
+    → IsStepsCause p (IsInRound p mode initial round) e → IsLossCause p mode initial max true e
+round-cause p mode initial max round Structures cause = absurd cause
+round-cause p mode initial max round Splits cause = (round, cause)
+round-cause p mode initial max round Individuals cause = (round, cause)
+round-cause p mode initial max round Memory cause = tt
+
 module _ (p : ProgramForm) (mode : Mode) (initial : List StructureForm) (listing : List (List StructureForm))
     (r : Result Losses WorkError) where
-  pub analyzed-cause : ((x : Point) → IsListed listing x → IsReached p mode initial x)
-      → IfErr r (IsStepsCause p (IsListed listing)) → IfErr r (IsStepsCause p (IsReached p mode initial))
-  analyzed-cause reached cause = by r cause
-    where
-      by : (r : Result Losses WorkError) → IfErr r (IsStepsCause p (IsListed listing))
-          → IfErr r (IsStepsCause p (IsReached p mode initial))
-      by (Ok losses) cause = tt
-      by (Err e) cause = steps-weaker p (IsListed listing) (IsReached p mode initial) reached e cause
+  pub analyzed-cause : (max : ℕ) → ((x : Point) → IsListed listing x → IsReached p mode initial x)
+      → IfErr r (IsStepsCause p (IsListed listing)) → IfErr r (IsLossCause p mode initial max false)
+  analyzed-cause max reached cause = IfErr-weaker r _ _
+      (λ e is. reached-cause p mode initial max e
+      (steps-weaker p (IsListed listing) (IsReached p mode initial) reached e is)) cause
+
+  pub joined-cause : (max round : ℕ) → ((x : Point) → IsListed listing x → IsInRound p mode initial round x)
+      → IfErr r (IsStepsCause p (IsListed listing)) → IfErr r (IsLossCause p mode initial max true)
+  joined-cause max round within cause = IfErr-weaker r _ _
+      (λ e is. round-cause p mode initial max round e
+      (steps-weaker p (IsListed listing) (IsInRound p mode initial round) within e is)) cause
 
   -- ---- answers
 
-  pub are-losses : (all passed : Bool) (max : ℕ) → IsLossListing p mode initial max passed listing
+  pub are-losses : (all joined passed : Bool) (max : ℕ) → IsLossListing p mode initial max joined passed listing
       → IfOk r (λ losses. losses.passed ≡ passed) → IfOk r (AreLossesIn p mode all initial listing)
-      → IfOk r (AreLosses p mode all initial max)
-  are-losses all passed max is same are = by r same are
+      → IfOk r (AreLosses p mode all joined initial max)
+  are-losses all joined passed max is same are = by r same are
     where
       by : (r : Result Losses WorkError) → IfOk r (λ losses. losses.passed ≡ passed)
-          → IfOk r (AreLossesIn p mode all initial listing) → IfOk r (AreLosses p mode all initial max)
+          → IfOk r (AreLossesIn p mode all initial listing) → IfOk r (AreLosses p mode all joined initial max)
       by (Ok losses) same are = record {
         listing = listing;
-        is = subst (λ (b : Bool). IsLossListing p mode initial max b listing) (sym same) is;
+        is = subst (λ (b : Bool). IsLossListing p mode initial max joined b listing) (sym same) is;
         are = are;
       }
       by (Err e) same are = tt

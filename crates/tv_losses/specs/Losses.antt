@@ -1,18 +1,24 @@
 -- What an analysis may owe its silence to.
 use Rattle.std.specs.Prelude.{ℕ, ◌≡◌, ◌≢◌, ◌<◌, ◌↔◌, ◌⊎◌, Bool, true, false, List, [], length, Some, All, AllPairs}
 use Rattle.std.specs.Prelude.{Any, Contains, slice_get}
+use Rattle.tv_join.specs.Joined.{IsJoined}
+use Rattle.tv_join.specs.Rounds.{IsInRound}
 use Rattle.tv_listing.specs.ListingForm.{at_node}
 use Rattle.tv_listing.specs.declared.analysis.MessageLine.{MessageLine}
 use Rattle.tv_model.specs.declared.program.Edge.{Edge}
 use Rattle.tv_model.specs.declared.program.Mode.{Mode}
 use Rattle.tv_model.specs.Program.{ProgramForm, ActionForm}
 use Rattle.tv_structure_form.specs.StructureForm.{StructureForm}
+use Rattle.tv_step_laws.specs.Budgets.{MeetsIndividuals, MeetsSplits}
 use Rattle.tv_step_laws.specs.Transfer.{AreAtHand, HasNoOpening, IsActionOf, focus_places}
 use Rattle.tv_losses_laws.specs.Cases.{CaseForm, IsLostCase}
 use Rattle.tv_losses_cases.specs.Cases.{AreCasesFrom, PlacedCase}
 use Rattle.tv_losses_cases.specs.Tallies.{IsTally}
-use Rattle.tv_work.specs.Analyzed.{IsAnalysis}
+use Rattle.tv_work.specs.Analyzed.{IsAnalysis, Meets}
+use Rattle.tv_work.specs.Reach.{AreMoreThan, IsReached}
 use Rattle.tv_work.specs.Stopped.{ListsPast}
+use Rattle.tv_work.specs.declared.error.WorkError.{WorkError}
+use Rattle.tv_work.specs.declared.error.WorkError.TheVariants.{Structures, Splits, Individuals, Memory}
 use Rattle.tv_losses.specs.Order.{IsMetBefore}
 use Rattle.tv_losses.specs.declared.told.EdgeLoss.{EdgeLoss}
 use Rattle.tv_losses.specs.declared.told.Losses.{Losses}
@@ -85,16 +91,41 @@ pub record AreLossesIn (p : ProgramForm) (mode : Mode) (all : Bool) (initial : L
   pub edges : AreEdgeLosses p mode all listing losses.edges
   pub nodes : AreExactly (ListsNothing listing) losses.nodes
 
--- the analysis lists this, or did until one structure more was reached than may be listed
-abbrev pub IsLossListing : ProgramForm → Mode → (initial : List StructureForm) → (max : ℕ) → (passed : Bool)
-    → (listing : List (List StructureForm)) → Type 0
-IsLossListing p mode initial max false listing =
+-- the analysis lists this, or did until one structure more was reached than may be listed; or the last round of
+-- the joined analysis does
+abbrev pub IsLossListing : ProgramForm → Mode → (initial : List StructureForm) → (max : ℕ)
+    → (joined passed : Bool) → (listing : List (List StructureForm)) → Type 0
+IsLossListing p mode initial max false false listing =
     (lines : List MessageLine) × IsAnalysis p mode initial max listing lines
-IsLossListing p mode initial max true listing = ListsPast p mode initial max listing
+IsLossListing p mode initial max false true listing = ListsPast p mode initial max listing
+IsLossListing p mode initial max true false listing =
+    (lines : List MessageLine) × IsJoined p mode initial max listing lines
+IsLossListing p mode initial max true true listing = ⊥
 
--- what is lost where the analysis lists this
-pub record AreLosses (p : ProgramForm) (mode : Mode) (all : Bool) (initial : List StructureForm) (max : ℕ)
+-- what is lost where the analysis, or the joined one, lists this
+pub record AreLosses (p : ProgramForm) (mode : Mode) (all joined : Bool) (initial : List StructureForm) (max : ℕ)
     (losses : Losses) : Type 0 where
   pub listing : List (List StructureForm)
-  pub is : IsLossListing p mode initial max losses.passed listing
+  pub is : IsLossListing p mode initial max joined losses.passed listing
   pub are : AreLossesIn p mode all initial listing losses
+
+-- ---- why losses aren't told
+
+-- a round of the joined analysis lists over `max` structures; the other one has no such limit
+abbrev pub PassesRounds : ProgramForm → Mode → (initial : List StructureForm) → (max : ℕ) → (joined : Bool) → Type 0
+PassesRounds p mode initial max false = ⊥
+PassesRounds p mode initial max true = (round : ℕ) × AreMoreThan max (IsInRound p mode initial round)
+
+-- the step of a reached structure, or of one that a round lists, meets the budget
+abbrev pub MeetsListed : ProgramForm → Mode → (initial : List StructureForm)
+    → (Budget : (edge : ℕ) → StructureForm → Type 0) → (joined : Bool) → Type 0
+MeetsListed p mode initial Budget false = Meets p Budget (IsReached p mode initial)
+MeetsListed p mode initial Budget true = (round : ℕ) × Meets p Budget (IsInRound p mode initial round)
+
+-- what an error says of what is listed
+abbrev pub IsLossCause : ProgramForm → Mode → (initial : List StructureForm) → (max : ℕ) → (joined : Bool)
+    → WorkError → Type 0
+IsLossCause p mode initial max joined Structures = PassesRounds p mode initial max joined
+IsLossCause p mode initial max joined Splits = MeetsListed p mode initial (MeetsSplits p) joined
+IsLossCause p mode initial max joined Individuals = MeetsListed p mode initial (MeetsIndividuals p) joined
+IsLossCause p mode initial max joined Memory = Unit {0}

@@ -1,10 +1,8 @@
 //! The losses of an analysis.
 
-ghost use Rattle.std.specs.Prelude.{◌≡◌, IfErr, IfOk};
+ghost use Rattle.std.specs.Prelude.{◌≡◌, IfErr, IfOk, false, true};
 ghost use Rattle.tv_model.specs.Program.{program_of};
-ghost use Rattle.tv_work.specs.Reach.{IsReached};
-ghost use Rattle.tv_work.specs.Stopped.{IsStepsCause};
-ghost use Rattle.tv_losses.specs.Losses.{AreLosses};
+ghost use Rattle.tv_losses.specs.Losses.{AreLosses, IsLossCause};
 ghost use Rattle.tv_losses.specs.Tasks.{AreLossesOf, CanBeAsked, IsListedCause, IsListingOver, IsReady};
 
 use crate::apart::{empty_nodes, unopened};
@@ -13,6 +11,7 @@ use crate::edges::lost_edges;
 use crate::task::Task;
 use crate::told::Losses;
 use std::alloc::Global;
+use tv_join::analyze_joined;
 use tv_listing::Listing;
 use tv_losses_cases::Trier;
 use tv_work::{Outcome, WorkError, analyze_or_stop};
@@ -58,22 +57,49 @@ pub fn losses_of(
     losses_in(&task, &mut trier, passed)
 }
 
-/// What an analysis may owe its silence to: the initial structures without an opening, and the edges along which
-/// a case of a listed structure is lost, or nothing is at hand of one; and the nodes at which nothing is listed.
-/// A case is a structure at hand, with individuals under which the precondition is `Yes`; it is lost where rules
-/// drop all that its update gives. Where over `max` structures are reached, this is told of those that are
-/// listed until then. `Splits` and `Individuals` only where the step of a reached structure meets that budget,
-/// never `Structures`.
-pub fn losses(alloc: Global, x: &Asked) -> Result<Losses, WorkError>
+/// The losses of the analysis that lists each structure, of those listed until then where over `max` are reached.
+fn exact_losses(alloc: Global, x: &Asked) -> Result<Losses, WorkError>
     requires { CanBeAsked x.now }
-    ensures losses { IfOk result (AreLosses (program_of x.now.program.now) x.now.mode x.now.all
+    ensures losses { IfOk result (AreLosses (program_of x.now.program.now) x.now.mode x.now.all false
         x.now.initial.now x.now.max) }
-    ensures cause { IfErr result (IsStepsCause (program_of x.now.program.now)
-        (IsReached (program_of x.now.program.now) x.now.mode x.now.initial.now)) }
+    ensures cause { IfErr result (IsLossCause (program_of x.now.program.now) x.now.mode x.now.initial.now
+        x.now.max false) }
 {
     let ended = analyze_or_stop(alloc, x.program, x.initial, x.mode, x.max)?;
     match ended {
         Outcome::Finished(found) => losses_of(alloc, x, &found.listing, false),
         Outcome::Stopped(listing) => losses_of(alloc, x, &listing, true),
     }
+}
+
+/// The losses of the joined analysis.
+fn joined_losses(alloc: Global, x: &Asked) -> Result<Losses, WorkError>
+    requires { CanBeAsked x.now }
+    ensures losses { IfOk result (AreLosses (program_of x.now.program.now) x.now.mode x.now.all true
+        x.now.initial.now x.now.max) }
+    ensures cause { IfErr result (IsLossCause (program_of x.now.program.now) x.now.mode x.now.initial.now
+        x.now.max true) }
+{
+    let found = analyze_joined(alloc, x.program, x.initial, x.mode, x.max)?;
+    losses_of(alloc, x, &found.listing, false)
+}
+
+/// What an analysis may owe its silence to: the initial structures without an opening, and the edges along which
+/// a case of a listed structure is lost, or nothing is at hand of one; and the nodes at which nothing is listed.
+/// A case is a structure at hand, with individuals under which the precondition is `Yes`; it is lost where rules
+/// drop all that its update gives. Where over `max` structures are reached, this is told of those that are
+/// listed until then, but for the joined analysis. `Structures` only where a round of that lists over `max`,
+/// `Splits` and `Individuals` only where the step of a structure that is reached, or that a round lists, meets
+/// that budget.
+pub fn losses(alloc: Global, x: &Asked) -> Result<Losses, WorkError>
+    requires { CanBeAsked x.now }
+    ensures losses { IfOk result (AreLosses (program_of x.now.program.now) x.now.mode x.now.all x.now.joined
+        x.now.initial.now x.now.max) }
+    ensures cause { IfErr result (IsLossCause (program_of x.now.program.now) x.now.mode x.now.initial.now
+        x.now.max x.now.joined) }
+{
+    if x.joined {
+        return joined_losses(alloc, x);
+    }
+    exact_losses(alloc, x)
 }

@@ -27,12 +27,12 @@ pub record AreNone (losses : Losses) : Type 0 where
   pub no_initial : losses.initial ≡ []
   pub no_edges : losses.edges ≡ []
 
--- the report is on the losses of the analysis, tells all lost cases or of each edge the first alone, and of each
+-- the report is on the losses of the analysis, or of the joined one, tells all lost cases or of each edge the first alone, and of each
 -- initial structure without an opening the first declaration that it contradicts alone, or that there is none
-pub record IsLossReport (program : Program) (heads : List (List ℕ)) (mode : Mode) (all : Bool)
+pub record IsLossReport (program : Program) (heads : List (List ℕ)) (mode : Mode) (all joined : Bool)
     (initial : List StructureForm) (max : ℕ) (report : LossReport) : Type 0 where
   pub losses : Losses
-  pub are : AreLosses (program_of program) mode all initial max losses
+  pub are : AreLosses (program_of program) mode all joined initial max losses
   pub claims : List (Option Claim)
   pub found : AreFound (program_of program) initial losses.initial claims
   pub text : report.text.items ≡ losses_text program heads claims max losses

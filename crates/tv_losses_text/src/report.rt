@@ -2,8 +2,7 @@
 
 ghost use Rattle.std.specs.Prelude.{IfOk, IfErr};
 ghost use Rattle.tv_model.specs.Program.{program_of};
-ghost use Rattle.tv_work.specs.Reach.{IsReached};
-ghost use Rattle.tv_work.specs.Stopped.{IsStepsCause};
+ghost use Rattle.tv_losses.specs.Losses.{IsLossCause};
 ghost use Rattle.tv_losses.specs.Tasks.{CanBeAsked};
 ghost use Rattle.tv_losses_text.specs.Reports.{IsLossReport};
 
@@ -27,13 +26,14 @@ pub struct LossReport {
 /// What an analysis may owe its silence to, each loss in one line, and whether there is any; behind these the
 /// nodes that aren't reached. Of an initial structure without an opening the first declaration is told that it
 /// contradicts alone, if there is one. The heads are those of the program's edges. `Splits` and `Individuals` only
-/// where the step of a reached structure meets that budget, never `Structures`.
+/// where the step of a reached structure, or of one that a round of the joined analysis lists, meets that budget;
+/// `Structures` only where such a round lists over `max`.
 pub fn explain_losses(alloc: Global, x: &Asked, heads: &[Bytes]) -> Result<LossReport, WorkError>
     requires { CanBeAsked x.now }
-    ensures report { IfOk result (IsLossReport x.now.program.now heads.now x.now.mode x.now.all
+    ensures report { IfOk result (IsLossReport x.now.program.now heads.now x.now.mode x.now.all x.now.joined
         x.now.initial.now x.now.max) }
-    ensures cause { IfErr result (IsStepsCause (program_of x.now.program.now)
-        (IsReached (program_of x.now.program.now) x.now.mode x.now.initial.now)) }
+    ensures cause { IfErr result (IsLossCause (program_of x.now.program.now) x.now.mode x.now.initial.now
+        x.now.max x.now.joined) }
 {
     let found = losses(alloc, x)?;
     let mut declared = Declared::new(alloc, x.program)?;

@@ -8,5 +8,5 @@ explain_losses-requires c = record { valid = c.requires.valid; initial = c.requi
 pub returns-in-Err-clause-cause : goal.returns-in-Err-clause-cause
 returns-in-Err-clause-cause c =
     rw c.fault_of_work.ensures
-    (losses_stop (analyzed_of c.args.of.now) c.args.cases c.args.inputs.now c.in-Err.error
+    (losses_stop (analyzed_of c.args.of.now) c.args.how c.args.inputs.now c.in-Err.error
     c.in-Err.ensures.cause)
