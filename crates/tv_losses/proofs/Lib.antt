@@ -1,6 +1,4 @@
 mod Answering
 mod Casing
-mod Exactly
 mod Losing
-mod Ordering
 mod Telling

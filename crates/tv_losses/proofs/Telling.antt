@@ -20,7 +20,7 @@ use Rattle.tv_step_laws.specs.Transfer.{IsActionOf}
 use Rattle.tv_step_laws.proofs.Heaps.{action-once}
 use Rattle.tv_losses_laws.specs.Cases.{IsLostCase, IsSureCase, IsDroppedCase}
 use Rattle.tv_losses_cases.specs.Cases.{AreCases}
-use Rattle.tv_losses.specs.Order.{IsMetBefore}
+use Rattle.tv_edge_order.specs.Order.{IsMetBefore}
 use Rattle.tv_losses.specs.Losses.{AreEdgeLosses, HasLostCase, HasNothingAtHand, IsEdgeLoss, IsNowhere, LosesAlong}
 use Rattle.tv_losses.specs.declared.told.EdgeLoss.{EdgeLoss}
 use Rattle.tv_losses.proofs.Casing.{case-among, case-of, cases-of_listed, none-lost}

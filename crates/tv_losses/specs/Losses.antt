@@ -1,6 +1,8 @@
 -- What an analysis may owe its silence to.
 use Rattle.std.specs.Prelude.{ℕ, ◌≡◌, ◌≢◌, ◌<◌, ◌↔◌, ◌⊎◌, Bool, true, false, List, [], length, Some, All, AllPairs}
 use Rattle.std.specs.Prelude.{Any, Contains, slice_get}
+use Rattle.tv_edge_order.specs.Exactly.{AreExactly}
+use Rattle.tv_edge_order.specs.Order.{IsMetBefore}
 use Rattle.tv_join.specs.Joined.{IsJoined}
 use Rattle.tv_join.specs.Rounds.{IsInRound}
 use Rattle.tv_listing.specs.ListingForm.{at_node}
@@ -19,14 +21,8 @@ use Rattle.tv_work.specs.Reach.{AreMoreThan, IsReached}
 use Rattle.tv_work.specs.Stopped.{ListsPast}
 use Rattle.tv_work.specs.declared.error.WorkError.{WorkError}
 use Rattle.tv_work.specs.declared.error.WorkError.TheVariants.{Structures, Splits, Individuals, Memory}
-use Rattle.tv_losses.specs.Order.{IsMetBefore}
 use Rattle.tv_losses.specs.declared.told.EdgeLoss.{EdgeLoss}
 use Rattle.tv_losses.specs.declared.told.Losses.{Losses}
-
--- the numbers are exactly those that have the property, in ascending order
-pub record AreExactly (P : ℕ → Type 0) (numbers : List ℕ) : Type 0 where
-  pub each : (n : ℕ) → Contains numbers n ↔ P n
-  pub ordered : AllPairs ◌<◌ numbers
 
 -- the initial structure of this number has no opening
 abbrev pub HasNoOpeningAt : ProgramForm → (initial : List StructureForm) → (number : ℕ) → Type 0

@@ -5,7 +5,8 @@ ghost use Rattle.tv_model.specs.Program.{action_of, program_of};
 ghost use Rattle.tv_losses.specs.Tasks.{IsListedCause, IsReady, TellsOfEdge};
 
 use crate::task::Task;
-use crate::told::{EdgeLoss, push_if};
+use crate::told::EdgeLoss;
+use tv_edge_order::push_if;
 use tv_losses_cases::{Spot, Tally, Trier, count_cases};
 use tv_model::{Action, Edge, Items, Program};
 use tv_work::WorkError;

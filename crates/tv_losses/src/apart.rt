@@ -2,12 +2,13 @@
 
 ghost use Rattle.std.specs.Prelude.{◌≡◌, ◌≤◌, length, IfOk};
 ghost use Rattle.tv_model.specs.Program.{program_of};
-ghost use Rattle.tv_losses.specs.Losses.{AreExactly, HasNoOpeningAt, ListsNothing};
+ghost use Rattle.tv_edge_order.specs.Exactly.{AreExactly};
+ghost use Rattle.tv_losses.specs.Losses.{HasNoOpeningAt, ListsNothing};
 ghost use Rattle.tv_losses.specs.Tasks.{IsReady};
 
 use crate::task::Task;
-use crate::told::{Places, push_if};
 use std::alloc::AllocError;
+use tv_edge_order::{Places, push_if};
 use tv_losses_cases::Trier;
 use tv_model::Items;
 

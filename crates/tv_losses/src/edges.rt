@@ -7,10 +7,10 @@ ghost use Rattle.tv_losses.specs.Losses.{AreEdgeLosses, LosesAlong};
 ghost use Rattle.tv_losses.specs.Tasks.{IsListedCause, IsReady};
 
 use crate::along::edge_loss;
-use crate::order::edge_order;
 use crate::task::Task;
 use crate::told::{EdgeLoss, EdgeLosses};
 use std::alloc::AllocError;
+use tv_edge_order::edge_order;
 use tv_losses_cases::Trier;
 use tv_model::{Edge, Items, Program};
 use tv_work::WorkError;

@@ -6,10 +6,9 @@ mod analyzed;
 mod apart;
 mod asked;
 mod edges;
-mod order;
 mod task;
 mod told;
 
 pub use analyzed::{losses, losses_of};
 pub use asked::Asked;
-pub use told::{EdgeLoss, EdgeLosses, Losses, Places};
+pub use told::{EdgeLoss, EdgeLosses, Losses};

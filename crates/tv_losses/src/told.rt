@@ -1,24 +1,11 @@
 //! What is told of losses.
 
-ghost use Rattle.std.specs.Prelude.{◌≡◌, ◌↔◌, [], ◌∷◌, ◌++◌, IsTrue, OnOk, if◌then◌else◌};
+ghost use Rattle.std.specs.Prelude.{◌≡◌, ◌↔◌, [], IsTrue};
 ghost use Rattle.tv_losses.specs.Losses.{LosesAlong};
 
-use std::alloc::AllocError;
+use tv_edge_order::Places;
 use tv_losses_cases::Tally;
 use tv_model::Items;
-
-/// Places in a list, from 0 on.
-pub type Places = Items<usize>;
-
-/// Puts the place behind the others, if the flag is set.
-pub(crate) fn push_if(places: &mut Places, on: bool, place: usize) -> Result<(), AllocError>
-    ensures { OnOk result (places.new ≡ (if on then places.old ++ place ∷ [] else places.old)) }
-{
-    if !on {
-        return Ok(());
-    }
-    places.push(place)
-}
 
 /// What is told of an edge: its cases, how many of them are lost, and of how many of the structures that are
 /// listed at its source nothing is at hand.

@@ -9,7 +9,8 @@ use Rattle.tv_lemmas.proofs.Lists.{drop_there}
 use Rattle.tv_model.specs.Program.{ActionForm, ProgramForm, program_of}
 use Rattle.tv_structure_form.specs.StructureForm.{IsOver, StructureForm}
 use Rattle.tv_losses_unmet.specs.declared.claim.Claim.{Claim}
-use Rattle.tv_losses.specs.Losses.{AreExactly, HasNoOpeningAt}
+use Rattle.tv_edge_order.specs.Exactly.{AreExactly}
+use Rattle.tv_losses.specs.Losses.{HasNoOpeningAt}
 use Rattle.std.proofs.Common.{sym, ap, append_assoc}
 use Rattle.std.specs.Prelude.{codes, Result, Ok, Err, OnOk, is_ok, not, if◌then◌else◌}
 use Rattle.tv_losses.specs.declared.told.EdgeLoss.{EdgeLoss}

@@ -14,7 +14,7 @@ use Rattle.tv_losses_cases.specs.Cases.{AreCases, placed_at}
 use Rattle.tv_losses_cases.specs.Tallies.{CountsMore}
 use Rattle.tv_losses.specs.Losses.{HasNothingAt, HasNothingAtHand}
 use Rattle.tv_losses.proofs.Casing.{tallied-all, tallied-next, tallied-none}
-use Rattle.tv_losses.proofs.Exactly.{below-all, below-next, none-below}
+use Rattle.tv_edge_order.proofs.Exactly.{below-all, below-next, none-below}
 use Rattle.tv_losses.proofs.Losing.{action-within, at-source, from-within, listed-all, listed-cause}
 use Rattle.tv_losses.proofs.Losing.{nowhere-at, nowhere-within, same-answer}
 use Rattle.tv_losses.proofs.along.edge_loss.Goals as goal

@@ -3,7 +3,7 @@ use Rattle.tv_listing.specs.ListingForm.{at_node}
 use Rattle.tv_model.specs.Program.{action_of, program_of}
 use Rattle.tv_losses.specs.Losses.{HasNothingAt}
 use Rattle.tv_losses.proofs.Casing.{TalliedBefore}
-use Rattle.tv_losses.proofs.Exactly.{AreBelow}
+use Rattle.tv_edge_order.proofs.Exactly.{AreBelow}
 use Rattle.tv_losses.proofs.along.edge_loss.Given as goal
 
 abbrev pub invariant-loop-place : goal.invariant-loop-place

@@ -5,7 +5,7 @@ use Rattle.tv_step.specs.EngineForm.{EngineForm}
 use Rattle.tv_structure_form.specs.StructureForm.{IsOver, StructureForm}
 use Rattle.tv_step_laws.specs.Transfer.{HasNoOpening}
 use Rattle.tv_losses.specs.Losses.{HasNoOpeningAt}
-use Rattle.tv_losses.proofs.Exactly.{none-below, below-all, below-next}
+use Rattle.tv_edge_order.proofs.Exactly.{none-below, below-all, below-next}
 use Rattle.tv_losses.proofs.Losing.{opening-at, same-answer, unopened-within}
 use Rattle.tv_losses.proofs.apart.unopened.Goals as goal
 

@@ -2,7 +2,7 @@ use Rattle.std.proofs.Common.{◌≡◌, ◌∙◌, ◌<◌, ◌++◌, ◌∷◌
 use Rattle.std.proofs.lemmas.List.{take_all, take_more}
 use Rattle.std.proofs.lemmas.Option.{get_or_from_slice_get, slice_get_within}
 use Rattle.tv_model.specs.Program.{program_of}
-use Rattle.tv_losses.specs.Order.{IsMetBefore}
+use Rattle.tv_edge_order.specs.Order.{IsMetBefore}
 use Rattle.tv_losses.proofs.Losing.{ready-again}
 use Rattle.tv_losses.proofs.Telling.{AreTold, before-at, none-told, told-all, told-next}
 use Rattle.tv_losses.proofs.edges.lost_edges.Goals as goal

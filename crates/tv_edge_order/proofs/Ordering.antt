@@ -13,9 +13,9 @@ use Rattle.tv_model.specs.declared.program.Edge.{Edge}
 use Rattle.tv_model.specs.Program.{ProgramForm}
 use Rattle.tv_model.specs.Valid.{IsEdge, IsValid}
 use Rattle.tv_model.proofs.Lists.{Contains-none, slice_get-contains}
-use Rattle.tv_losses.specs.Losses.{AreExactly}
-use Rattle.tv_losses.specs.Order.{AreEnds, AreNear, AreNext, IsMetBefore, IsAtLevel, IsAway, IsNextNear, IsOrder}
-use Rattle.tv_losses.specs.Order.{IsSourceAway, IsNearerThan}
+use Rattle.tv_edge_order.specs.Exactly.{AreExactly}
+use Rattle.tv_edge_order.specs.Order.{AreEnds, AreNear, AreNext, IsMetBefore, IsAtLevel, IsAway, IsNextNear, IsOrder}
+use Rattle.tv_edge_order.specs.Order.{IsSourceAway, IsNearerThan}
 
 -- ---- one edge more that leads to a node
 

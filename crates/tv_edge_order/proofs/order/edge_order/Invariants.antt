@@ -1,8 +1,8 @@
 use Rattle.std.proofs.Common.{length}
 use Rattle.tv_model.specs.Program.{program_of}
-use Rattle.tv_losses.specs.Order.{AreNear}
-use Rattle.tv_losses.proofs.Ordering.{AreOrdered}
-use Rattle.tv_losses.proofs.order.edge_order.Given as goal
+use Rattle.tv_edge_order.specs.Order.{AreNear}
+use Rattle.tv_edge_order.proofs.Ordering.{AreOrdered}
+use Rattle.tv_edge_order.proofs.order.edge_order.Given as goal
 
 abbrev pub invariant-loop : goal.invariant-loop
 invariant-loop l = record {

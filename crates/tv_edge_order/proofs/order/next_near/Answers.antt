@@ -1,13 +1,13 @@
-use Rattle.std.proofs.Common.{◌≡◌, ◌∙◌, ◌<◌, ◌++◌, ◌∷◌, [], List, ap, arith, length, refl, subst, sym, take}
+use Rattle.std.proofs.Common.{◌≡◌, ◌∙◌, ◌<◌, ◌+◌, ◌++◌, ◌∷◌, [], List, ap, arith, length, refl, subst, sym, take}
 use Rattle.std.specs.Prelude.{false, slice_index_or}
 use Rattle.std.proofs.lemmas.List.{take_all, take_more}
 use Rattle.std.proofs.lemmas.List.Elements.{All-contains}
 use Rattle.std.proofs.lemmas.Option.{get_or_from_slice_get}
 use Rattle.tv_model.specs.declared.program.Edge.{Edge}
 use Rattle.tv_model.proofs.Lists.{slice_get-contains}
-use Rattle.tv_losses.specs.Order.{AreNext}
-use Rattle.tv_losses.proofs.Ordering.{next-more}
-use Rattle.tv_losses.proofs.order.next_near.Goals as goal
+use Rattle.tv_edge_order.specs.Order.{AreNext}
+use Rattle.tv_edge_order.proofs.Ordering.{next-more}
+use Rattle.tv_edge_order.proofs.order.next_near.Goals as goal
 
 pub mark-requires : goal.mark-requires
 mark-requires c =

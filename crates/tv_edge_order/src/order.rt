@@ -4,10 +4,10 @@ ghost use Rattle.std.specs.Prelude.{◌≡◌, ◌<◌, ◌&&◌, ◌++◌, [], 
 ghost use Rattle.std.specs.Prelude.{if◌then◌else◌, slice_index_or, slice_set, vec_len};
 ghost use Rattle.tv_model.specs.Program.{program_of};
 ghost use Rattle.tv_model.specs.Valid.{IsValid};
-ghost use Rattle.tv_losses.specs.Losses.{AreExactly};
-ghost use Rattle.tv_losses.specs.Order.{AreEnds, AreNext, IsAtLevel, IsOrder};
+ghost use Rattle.tv_edge_order.specs.Exactly.{AreExactly};
+ghost use Rattle.tv_edge_order.specs.Order.{AreEnds, AreNext, IsAtLevel, IsOrder};
 
-use crate::told::{Places, push_if};
+use crate::places::{Places, push_if};
 use std::alloc::{AllocError, Global};
 use tv_model::{Edge, Items, Program};
 
@@ -30,7 +30,7 @@ fn mark(flags: &mut Vec<bool>, before: &[bool], edge: Edge)
 }
 
 /// The edge of this number.
-pub(crate) fn edge_at(edges: &[Edge], number: usize) -> Edge
+fn edge_at(edges: &[Edge], number: usize) -> Edge
     requires { number < length edges.now }
     ensures { slice_get edges.now number ≡ Some result }
 {
@@ -99,7 +99,7 @@ fn append(places: &mut Places, others: &[usize]) -> Result<(), AllocError>
 
 /// The numbers of all edges: those to whose source fewer edges lead come first, and of as many those with lower
 /// numbers.
-pub(crate) fn edge_order(alloc: Global, program: &Program) -> Result<Places, AllocError>
+pub fn edge_order(alloc: Global, program: &Program) -> Result<Places, AllocError>
     requires { IsValid (program_of program.now) }
     ensures { IfOk result
         (IsOrder (length (program_of program.now).nodes) (program_of program.now).edges) }

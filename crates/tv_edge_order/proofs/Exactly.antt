@@ -9,7 +9,7 @@ use Rattle.std.proofs.lemmas.List.Elements.{Contains-append_left, Contains-get_o
 use Rattle.std.proofs.lemmas.List.Elements.{Contains-push_cases}
 use Rattle.std.proofs.lemmas.List.Quantifiers.{all_pairs_push}
 use Rattle.tv_model.proofs.Lists.{Contains-none}
-use Rattle.tv_losses.specs.Losses.{AreExactly}
+use Rattle.tv_edge_order.specs.Exactly.{AreExactly}
 
 -- exactly those below n
 abbrev pub AreBelow : (n : ℕ) → (P : ℕ → Type 0) → List ℕ → Type 0

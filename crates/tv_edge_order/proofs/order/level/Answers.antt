@@ -1,9 +1,9 @@
 use Rattle.std.proofs.Common.{◌↔◌, Bool, IsTrue, arith, length, refl, subst, sym}
 use Rattle.std.specs.Prelude.{false, slice_index_or}
-use Rattle.tv_losses.specs.Order.{IsAtLevel}
-use Rattle.tv_losses.proofs.Exactly.{below-all, below-next, none-below}
-use Rattle.tv_losses.proofs.Ordering.{level-at, level-within}
-use Rattle.tv_losses.proofs.order.level.Goals as goal
+use Rattle.tv_edge_order.specs.Order.{IsAtLevel}
+use Rattle.tv_edge_order.proofs.Exactly.{below-all, below-next, none-below}
+use Rattle.tv_edge_order.proofs.Ordering.{level-at, level-within}
+use Rattle.tv_edge_order.proofs.order.level.Goals as goal
 
 pub loop-number-init : goal.loop-number-init
 loop-number-init c =

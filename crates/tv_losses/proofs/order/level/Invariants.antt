@@ -1,6 +1,0 @@
-use Rattle.tv_losses.specs.Order.{IsAtLevel}
-use Rattle.tv_losses.proofs.Exactly.{AreBelow}
-use Rattle.tv_losses.proofs.order.level.Given as goal
-
-abbrev pub invariant-loop-number : goal.invariant-loop-number
-invariant-loop-number l = AreBelow l.number (IsAtLevel l.edges l.before l.near) l.level
