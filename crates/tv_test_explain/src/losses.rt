@@ -46,7 +46,7 @@ const LOST: Row<'static, 'static, 'static, 'static> = Row {
     ..PLAIN
 };
 
-pub static LOSSES: [Row<'static, 'static, 'static, 'static>; 17] = [
+pub static LOSSES: [Row<'static, 'static, 'static, 'static>; 19] = [
     Row {
         files: &[("p", DEFINED), ("i", "%n = {a} %p = { x = {a} some = 1 }")],
         ..NOTHING
@@ -178,6 +178,26 @@ node L2 isn't reached
         words: &["losses", "p", "i", "--recompute", "--max-structures", "1"],
         files: &FREE_OF_BOTH,
         out: "more than 1 structures; of those listed until then:\nnothing is lost\n",
+        ..PLAIN
+    },
+    // of the joined analysis
+    Row {
+        words: &["losses", "--join", "p", "i", "--cases", "--max-structures", "2"],
+        files: &[("p", CYCLE), ("i", "%n = {a} %p = { x = {a} }")],
+        out: "edge 0 loses 1 of 1 cases, first structure 0, by rule 2  p:2  L1 x_n_is_x ( ) L2
+case of structure 0, by rule 2
+case   at hand  (x)
+case   given 0  (x)-n->(x)
+node L2 isn't reached
+",
+        ..LOST
+    },
+    Row {
+        words: &["losses", "--join", "p", "i", "--recompute", "--max-structures", "1"],
+        files: &FREE_OF_BOTH,
+        out: "",
+        code: 4,
+        err: "tvla-explain: more than 1 structures\n",
         ..PLAIN
     },
 ];

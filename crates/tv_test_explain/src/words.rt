@@ -28,7 +28,8 @@ losses p
 losses p i 0
 losses p i --maps
 losses p i --cases --cases
-losses p i --join
+losses p i --join --cases --join
+counts p i --join
 counts p i --cases
 losses p i --delta --recompute
 losses p i --max-structures=0

@@ -22,6 +22,7 @@ pub struct How {
     pub mode: Mode,
     pub max: u64,
     pub all: bool,
+    pub joined: bool,
 }
 
 /// The first lost case of each edge, of the analysis with these updates.
@@ -29,6 +30,7 @@ pub const PLAIN: How = How {
     mode: Mode::Given,
     max: 1000,
     all: false,
+    joined: false,
 };
 
 /// The losses of the analysis of the program from these initial structures.
@@ -42,6 +44,7 @@ pub fn reported(alloc: Global, program: &str, initial: &str, how: How) -> Result
         mode: how.mode,
         max: how.max,
         all: how.all,
+        joined: how.joined,
     };
     match explain_losses(alloc, &asked, heads.as_slice()) {
         Ok(report) => Ok(report),

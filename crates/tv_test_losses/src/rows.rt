@@ -235,6 +235,42 @@ nothing is lost
     ),
 ];
 
+/// What is set is claimed never to hold: where `x` points to `y`, or anyway.
+const POINTED: &str = "%p x(v) %p y(v) %p n(v, w) %p b() %r b() ==> 0 %%
+%action ask() { %p E(v, w) x(v) & y(w) & n(v, w) { b() = 1 } } %action set() { { b() = 1 } } %%
+L1 ask() L2 L1 set() L3";
+
+/// In the first of two structures it does.
+const BOTH: &str = "%n = {a, b} %p = { x = {a} y = {b} n = {a->b} } %n = {a, b} %p = { x = {a} y = {b} }";
+
+/// Each of them is listed, the one without the pointer first.
+const APART: [Row; 1] = [(
+    POINTED,
+    BOTH,
+    "edge 0 loses 1 of 1 cases, first structure 1, by rule 0  e0
+edge 1 loses 2 of 2 cases, first structure 0, by rule 0  e1
+node L2 isn't reached
+node L3 isn't reached
+",
+)];
+
+/// They are joined to one, in which it isn't known.
+const JOINED: [Row; 2] = [
+    (
+        POINTED,
+        BOTH,
+        "edge 1 loses 1 of 1 cases, first structure 0, by rule 0  e1
+node L2 isn't reached
+node L3 isn't reached
+",
+    ),
+    (
+        BRANCH,
+        "%n = {} %p = { a = 1/2 }",
+        "edge 0 loses 1 of 2 cases, first structure 0, by rule 0  e0\n",
+    ),
+];
+
 /// All lost cases, with their structures.
 const CASES: [Row; 1] = [(
     EACH,
@@ -292,6 +328,21 @@ fn what_is_near_comes_first(rt: HostRuntime) -> Result<(), Fail> {
 fn what_is_listed_until_a_limit_is_told(rt: HostRuntime) -> Result<(), Fail> {
     let how = How { max: 1, ..PLAIN };
     for row in &PASSED {
+        assert!(rt; is_so(rt.alloc(), row, how)?, "{} of {}", row.0, row.1);
+    }
+    Ok(())
+}
+
+#[test]
+fn joined_structures_are_told(rt: HostRuntime) -> Result<(), Fail> {
+    let how = How {
+        joined: true,
+        ..PLAIN
+    };
+    for row in &APART {
+        assert!(rt; is_so(rt.alloc(), row, PLAIN)?, "{} of {}", row.0, row.1);
+    }
+    for row in &JOINED {
         assert!(rt; is_so(rt.alloc(), row, how)?, "{} of {}", row.0, row.1);
     }
     Ok(())
