@@ -39,8 +39,8 @@ pub next-more : (edges : List Edge) (e : Edge) (near next new : List Bool) → A
     → new ≡ (if on then slice_set next e.to true else next) → AreNext (edges ++ e ∷ []) near new
 next-more edges e near next new are lt true set is = record {
   count = ap (λ (fs : List Bool). length fs) is ∙ length-set next e.to true ∙ are.count;
-  each = λ v within. subst (λ (fs : List Bool). IsTrue (slice_index_or fs v false) ↔ IsNextNear (edges ++ e ∷ []) near v)
-      (sym is) (by v within (cases_eq v e.to));
+  each = λ v within. subst (λ (fs : List Bool). IsTrue (slice_index_or fs v false)
+      ↔ IsNextNear (edges ++ e ∷ []) near v) (sym is) (by v within (cases_eq v e.to));
 }
   where
     by : (v : ℕ) → v < length near → (v ≡ e.to) ⊎ (v ≢ e.to)
@@ -58,8 +58,8 @@ next-more edges e near next new are lt true set is = record {
         )
 next-more edges e near next new are lt false unset is = record {
   count = ap (λ (fs : List Bool). length fs) is ∙ are.count;
-  each = λ v within. subst (λ (fs : List Bool). IsTrue (slice_index_or fs v false) ↔ IsNextNear (edges ++ e ∷ []) near v)
-      (sym is) (
+  each = λ v within. subst (λ (fs : List Bool). IsTrue (slice_index_or fs v false)
+      ↔ IsNextNear (edges ++ e ∷ []) near v) (sym is) (
         (λ on. next-weaker edges e near v ((are.each v within).0 on)),
         (λ there. (are.each v within).1
             (next-other edges e near v (λ both. true≢false (sym both.1 ∙ unset)) there)),

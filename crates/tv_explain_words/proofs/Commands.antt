@@ -223,7 +223,8 @@ module _ (name : List ℕ) (words rest : List (List ℕ)) (whole : words ≡ nam
     said_of command (other, f, is) =
         let line : is.line ≡ line_of h.parts h.behind =
         one_form (others_of name rest) is.line (line_of h.parts h.behind)
-        (subst (λ ws. StandsOn ws is.line) (same_others command other f) is.stands) (there (others_of name rest) m h) in (
+        (subst (λ ws. StandsOn ws is.line) (same_others command other f) is.stands)
+        (there (others_of name rest) m h) in (
           word_plain command ∙ (behind_name command other f).0,
           same_said (line_of h.parts h.behind) (told_line m)
               (turned (told_line m) (line_of h.parts h.behind) (told (others_of name rest) m h)) (plain_of command)

@@ -103,7 +103,8 @@ module _ (p : ProgramForm) (mode : Mode) (all : Bool) (listing : List (List Stru
           let same = action-once p loss.edge action is.action its is.its_action
           in let at = found_at (at_node listing is.taken.from) s source
           in let there = (is.are.each at.0).1 (s, at.1, subst (λ a. HasNothingAtHand p a s) same nothing)
-          in Contains-none at.0 (subst (λ ns. Contains ns at.0) (no-places is.places (sym is.without ∙ zero-without)) there)
+          in Contains-none at.0
+          (subst (λ ns. Contains ns at.0) (no-places is.places (sym is.without ∙ zero-without)) there)
 
   module _ (seen : List ℕ) (n : ℕ) (before : (k : ℕ) → Contains seen k → IsMetBefore (length p.nodes) p.edges k n)
       (losses : List EdgeLoss) (told : AreTold p mode all listing seen losses) (loss : EdgeLoss)

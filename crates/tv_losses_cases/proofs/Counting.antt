@@ -9,8 +9,8 @@ use Rattle.tv_model.specs.declared.program.Mode.{Mode}
 use Rattle.tv_model.specs.Program.{ProgramForm, ActionForm}
 use Rattle.tv_losses_laws.specs.Cases.{IsDroppedCase}
 use Rattle.tv_losses_cases.specs.Cases.{PlacedCase}
-use Rattle.tv_losses_cases.specs.Tallies.{CountsMore, TellsEnough, IsTally, TellsOf, asked, lost_of, no_cases, with_kept}
-use Rattle.tv_losses_cases.specs.Tallies.{with_passed, with_told}
+use Rattle.tv_losses_cases.specs.Tallies.{CountsMore, TellsEnough, IsTally, TellsOf, asked, lost_of, no_cases}
+use Rattle.tv_losses_cases.specs.Tallies.{with_kept, with_passed, with_told}
 use Rattle.tv_losses_cases.specs.declared.tally.LostCase.{LostCase}
 use Rattle.tv_losses_cases.specs.declared.tally.Tally.{Tally}
 
@@ -96,7 +96,8 @@ module _ (p : ProgramForm) (mode : Mode) (action : ActionForm) where
       })
 
   pub told-counts : (old new : Tally) (x : PlacedCase) (t : LostCase) → IsDroppedCase p mode action x.it
-      → ¬ TellsEnough old → TellsOf p mode action x t → new ≡ with_told old t → CountsMore p mode action old (x ∷ []) new
+      → ¬ TellsEnough old → TellsOf p mode action x t → new ≡ with_told old t
+      → CountsMore p mode action old (x ∷ []) new
   told-counts old new x t dropped room tells is all before tally =
       let more = lost-more Flags before tally.lost x tally.are in
       subst (IsTally p mode action all (before ++ x ∷ [])) (sym is) (record {

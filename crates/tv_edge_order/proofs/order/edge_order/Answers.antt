@@ -1,4 +1,5 @@
-use Rattle.std.proofs.Common.{ℕ, ◌≡◌, ◌∙◌, ◌+◌, ◌++◌, Bool, List, ap, arith, length, replicate, rules, subst, suc, sym, true}
+use Rattle.std.proofs.Common.{ℕ, ◌≡◌, ◌∙◌, ◌+◌, ◌++◌, Bool, List, ap, arith, length, replicate, rules, subst, suc, sym}
+use Rattle.std.proofs.Common.{true}
 use Rattle.std.specs.Prelude.{false}
 use Rattle.tv_model.specs.Program.{program_of}
 use Rattle.tv_model.specs.declared.program.Edge.{Edge}

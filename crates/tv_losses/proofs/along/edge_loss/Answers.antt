@@ -66,7 +66,8 @@ count_cases-requires-clause-over c =
     let source = at_node c.args.x.now.listing.now c.args.edge.from
     in rw (c.loop-place.invariant.same, c.requires.ready.made)
     (listed-all (IsOver c.args.x.now.of.now.program.now.vocab) c.args.x.now.listing.now
-    c.requires.ready.listing.over c.args.edge.from c.at-s.result.now (slice_get-contains source c.loop-place.place c.at-s.result.now c.at-s.ensures.value))
+    c.requires.ready.listing.over c.args.edge.from c.at-s.result.now
+    (slice_get-contains source c.loop-place.place c.at-s.result.now c.at-s.ensures.value))
 
 pub returns-in_err-none-clause-cause : goal.returns-in_err-none-clause-cause
 returns-in_err-none-clause-cause c =

@@ -11,8 +11,8 @@ use Rattle.tv_losses.proofs.apart.unopened.Goals as goal
 
 pub loop-place-init : goal.loop-place-init
 loop-place-init c = record {
-  are = none-below (HasNoOpeningAt (program_of c.args.x.now.of.now.program.now) c.args.x.now.of.now.initial.now) c.new-places.result
-      c.new-places.ensures;
+  are = none-below (HasNoOpeningAt (program_of c.args.x.now.of.now.program.now) c.args.x.now.of.now.initial.now)
+      c.new-places.result c.new-places.ensures;
   same = cc;
 }
 
@@ -36,8 +36,8 @@ loop-place-preserved c =
           (same-answer (HasNoOpening p s) (HasNoOpeningAt p initial k) c.in_ok-on.on
           (subst (λ (e : EngineForm). IsTrue c.in_ok-on.on ↔ HasNoOpening (program_of e.program) s)
           (c.loop-place.invariant.same ∙ c.requires.ready.made) c.in_ok-on.ensures.dropped)
-          (opening-at p initial k s (subst (λ (ss : List StructureForm). slice_get ss k ≡ Some s) c.as_slice-s-items.ensures
-          (slice_get-get_or c.as_slice-s-items.result.now k s c.loop-place-test.true ∙ ap Some (sym c.s-item.is)))))
+          (opening-at p initial k s (subst (λ (ss : List StructureForm). slice_get ss k ≡ Some s)
+          c.as_slice-s-items.ensures (slice_get-get_or c.as_slice-s-items.result.now k s c.loop-place-test.true ∙ ap Some (sym c.s-item.is)))))
           c.in_ok-push_if.ensures;
       same = cc;
     }

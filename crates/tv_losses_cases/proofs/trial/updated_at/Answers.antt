@@ -11,7 +11,8 @@ returns c =
     let own = c.args.action.now.updates in
     let at : slice_get own c.args.place ≡ Some u
     = slice_get-get_or own c.args.place u c.requires
-    ∙ ap Some (sym (subst (λ (us : List Update). u ≡ get_or us c.args.place u) c.as_slice-updates.ensures c.index-updates-place.is)) in (
+    ∙ ap Some (sym (subst (λ (us : List Update). u ≡ get_or us c.args.place u) c.as_slice-updates.ensures
+    c.index-updates-place.is)) in (
       update_of u,
       slice_get-map update_of own c.args.place ∙ ap (option_map update_of) at,
       ap (λ (v : Update). v.pred.0) c.index-updates-place.is,
