@@ -29,7 +29,7 @@ fn lost_case(
     place: usize,
     given: Structures,
 ) -> Result<LostCase, StageError>
-    requires tried { IsTried x.now trier.old given }
+    requires { IsTried x.now trier.old given }
     ensures told { IfOk result (TellsOf (program_of trier.old.program) trier.old.mode (action_by x.now)
         (placed_at place (case_by x.now))) }
     ensures cause { IfErr result (IsUpdateCause (action_by x.now) x.now.from.now
@@ -78,7 +78,7 @@ fn count_given(
     given: Structures,
     tally: &mut Tally,
 ) -> Result<(), StageError>
-    requires tried { IsTried x.now trier.old given }
+    requires { IsTried x.now trier.old given }
     ensures counts { OnOk result (CountsMore (program_of trier.old.program) trier.old.mode (action_by x.now)
         tally.old (placed_at place (case_by x.now) ∷ []) tally.new) }
     ensures cause { IfErr result (IsUpdateCause (action_by x.now) x.now.from.now

@@ -67,12 +67,11 @@ impl<'a> Trier<'a> {
             (picks_of (action_by x.now) x.now.picked.now)) }
         ensures same { self.new ≡ self.old }
     {
-        let alloc = self.alloc();
-        let program = self.program();
-        if !is_defined(program, q) {
+        if !is_defined(self.program(), q) {
             return Ok(false);
         }
-        let made = with_core(alloc, program, q)?;
+        let alloc = self.alloc();
+        let made = with_core(alloc, self.program(), q)?;
         let mut scratch = Scratch::new(alloc, &made, 256)?;
         let given = given_by(alloc, &made, Mode::Recompute, x, &mut scratch)?;
         Ok(self.are_dropped(given.as_slice())?)
@@ -128,7 +127,7 @@ impl<'a> Trier<'a> {
 
     /// The claim of a lost case, of which the action gives these.
     pub(crate) fn blame(&mut self, x: &Candidate, given: &[Structure]) -> Result<Blame, StageError>
-        requires tried { IsTried x.now self.old given.now }
+        requires { IsTried x.now self.old given.now }
         ensures blame { IfOk result (IsBlamed (program_of self.old.program) self.old.mode (action_by x.now)
             (case_by x.now)) }
         ensures cause { IfErr result (IsUpdateCause (action_by x.now) x.now.from.now
