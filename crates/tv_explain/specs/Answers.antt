@@ -1,5 +1,6 @@
 -- What a command answers, and what it gives no answer for.
-use Rattle.std.specs.Prelude.{ℕ, ◌≡◌, ◌⊎◌, ◌<◌, ◌≤◌, false, List, ◌++◌, Option, Some, Ok, length, slice_get}
+use Rattle.std.specs.Prelude.{ℕ, ◌≡◌, ◌⊎◌, ◌<◌, ◌≤◌, Bool, false, List, ◌++◌, Option, Some, Ok, length}
+use Rattle.std.specs.Prelude.{slice_get}
 use Rattle.std.specs.Prelude.{codes}
 use Rattle.std.specs.Prelude.{Any, Contains}
 use Rattle.std.specs.List.{AllZip}
@@ -20,6 +21,7 @@ use Rattle.tv_texts.specs.declared.structures.StructuresText.{StructuresText}
 use Rattle.tv_kleene.specs.declared.K3.{K3}
 use Rattle.tv_lex.specs.Gather.{longest_gathered}
 use Rattle.tv_listing.specs.declared.analysis.Analysis.{Analysis}
+use Rattle.tv_losses.specs.Losses.{MeetsListed, PassesRounds}
 use Rattle.tv_losses_text.specs.Reports.{IsLossReport}
 use Rattle.tv_model.specs.Program.{MessageForm, ProgramForm, program_of}
 use Rattle.tv_model.specs.declared.program.Program.{Program}
@@ -49,6 +51,7 @@ use Rattle.tv_explain_text.specs.Trails.{at_hand_line, raised_line, trail_text}
 use Rattle.tv_explain_words.specs.Words.{AnalyzedForm, CommandForm, Shows, ListsEdges, TellsMessage}
 use Rattle.tv_explain_words.specs.Words.{TellsStructure, TellsLosses, Compiles, TakesStep, TellsPlan}
 use Rattle.tv_explain_words.specs.Words.{TellsCounts, Completes}
+use Rattle.tv_explain_words.specs.declared.words.LossOptions.{LossOptions}
 
 -- ---- messages and structures
 
@@ -83,10 +86,10 @@ IsStructureText of inputs node index text = (place : ℕ)
 
 -- ---- losses
 
--- the answer is the report on what the analysis loses, and says whether it loses anything
-abbrev pub TellsOfLosses : AnalyzedForm → Inputs → Answer → Type 0
-TellsOfLosses of inputs answer =
-    IsLossReport (drawn_form inputs) (heads_in inputs) of.mode inputs.initial of.max
+-- the answer is the report on what the analysis loses, or the joined one, and says whether it loses anything
+abbrev pub TellsOfLosses : AnalyzedForm → (how : LossOptions) → Inputs → Answer → Type 0
+TellsOfLosses of how inputs answer =
+    IsLossReport inputs.drawn.program (heads_in inputs) of.mode how.cases how.join inputs.initial of.max
     (record { text = answer.text; is_any = answer.is_lost })
 
 -- ---- compiled programs
@@ -152,7 +155,7 @@ IsText told (TellsMessage of edge number) text = (inputs : Inputs) × FilesMean 
     × IsMessageText of inputs edge number text
 IsText told (TellsStructure of node index) text = (inputs : Inputs) × FilesMean told of inputs
     × IsStructureText of inputs node index text
-IsText told (TellsLosses of) text = ⊥
+IsText told (TellsLosses of how) text = ⊥
 IsText told (Compiles source) text =
     (read : SourceText) × IsSourceText told source read × IsCompiledText read text
 IsText told (TakesStep of edge) text = (inputs : Inputs) × FilesMean told of inputs
@@ -167,8 +170,8 @@ IsText told (Completes program structures) text = ReadsSuch told program structu
 -- The answer is what the command gives: of `losses` what the analysis loses; of each other a text, and that
 -- nothing is lost.
 abbrev pub IsAnswer : Option Held → CommandForm → Answer → Type 0
-IsAnswer told (TellsLosses of) answer = (inputs : Inputs) × FilesMean told of inputs
-    × TellsOfLosses of inputs answer
+IsAnswer told (TellsLosses of how) answer = (inputs : Inputs) × FilesMean told of inputs
+    × TellsOfLosses of how inputs answer
 IsAnswer told other answer = IsText told other answer.text.items × (answer.is_lost ≡ false)
 
 -- ---- limits, and what isn't there
@@ -191,17 +194,22 @@ NamesNothing (TellsStructure asked node index) of inputs sought.Structure = (pla
 NamesNothing (TakesStep asked edge) of inputs sought.Edge = length (drawn_form inputs).edges ≤ edge
 NamesNothing command of inputs other = ⊥
 
--- more structures are reached than may be listed; a step, and counts, have no such limit
+-- more structures are reached than may be listed, or a round of the joined analysis lists more; a step, counts
+-- and other losses have no such limit
 abbrev pub PassesMost : CommandForm → AnalyzedForm → Inputs → Type 0
 PassesMost (TakesStep asked edge) of inputs = ⊥
 PassesMost (TellsCounts asked) of inputs = ⊥
+PassesMost (TellsLosses asked how) of inputs =
+    PassesRounds (drawn_form inputs) of.mode inputs.initial of.max how.join
 PassesMost command of inputs = AreMoreThan of.max (Reached of inputs)
 
 -- a step that the command takes meets the budget: that of a structure along the command's edge, of an
--- analysis that of a reached structure
+-- analysis that of a reached structure, or of one that a round of the joined analysis lists
 abbrev pub MeetsItsBudget : CommandForm → AnalyzedForm → Inputs
     → (Budget : ProgramForm → (edge : ℕ) → StructureForm → Type 0) → Type 0
 MeetsItsBudget (TakesStep asked edge) of inputs Budget = Any (Budget (drawn_form inputs) edge) inputs.initial
+MeetsItsBudget (TellsLosses asked how) of inputs Budget =
+    MeetsListed (drawn_form inputs) of.mode inputs.initial (Budget (drawn_form inputs)) how.join
 MeetsItsBudget command of inputs Budget =
     Meets (drawn_form inputs) (Budget (drawn_form inputs)) (Reached of inputs)
 
@@ -223,7 +231,8 @@ FilesMeanSuch told (TellsMessage of edge number) AreSuch =
     (inputs : Inputs) × FilesMean told of inputs × AreSuch of inputs
 FilesMeanSuch told (TellsStructure of node index) AreSuch =
     (inputs : Inputs) × FilesMean told of inputs × AreSuch of inputs
-FilesMeanSuch told (TellsLosses of) AreSuch = (inputs : Inputs) × FilesMean told of inputs × AreSuch of inputs
+FilesMeanSuch told (TellsLosses of how) AreSuch =
+    (inputs : Inputs) × FilesMean told of inputs × AreSuch of inputs
 FilesMeanSuch told (Compiles source) AreSuch = ⊥
 FilesMeanSuch told (TakesStep of edge) AreSuch =
     (inputs : Inputs) × FilesMean told of inputs × AreSuch of inputs

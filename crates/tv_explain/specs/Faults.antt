@@ -88,7 +88,7 @@ usage_text =
     ++ line (codes
     "       tvla-explain structure PROGRAM INITIAL NODE INDEX [--max-structures N] [--recompute | --delta]")
     ++ line (codes
-    "       tvla-explain losses PROGRAM INITIAL [--max-structures N] [--recompute | --delta]")
+    "       tvla-explain losses PROGRAM INITIAL [--cases] [--join] [--max-structures N] [--recompute | --delta]")
     ++ line (codes "       tvla-explain show PROGRAM REPORT")
     ++ line (codes "       tvla-explain edges PROGRAM")
     ++ line (codes "       tvla-explain compiled SOURCE")

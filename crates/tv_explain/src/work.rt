@@ -141,7 +141,7 @@ fn execute<F: Files>(alloc: Global, files: &mut F, command: &Command) -> Result<
             let index = *index;
             ask(alloc, files, of, &Question::Structure { node, index })
         }
-        Command::Losses { of } => ask(alloc, files, of, &Question::Losses),
+        Command::Losses { of, how } => ask(alloc, files, of, &Question::Losses { how: *how }),
         Command::Compiled { source } => plain(compiled(alloc, files, source)),
         Command::Step { of, edge } => ask(alloc, files, of, &Question::Step { edge: *edge }),
         Command::Plan {

@@ -1,11 +1,13 @@
 -- What the words of a call spell.
-use Rattle.std.specs.Prelude.{◌≡◌, ◌<◌, ◌^◌, ℕ, Bool, false, List, [], ◌∷◌, codes, decimal}
-use Rattle.std.specs.Prelude.{string_bytes}
+use Rattle.std.specs.Prelude.{◌≡◌, ◌<◌, ◌^◌, ◌&&◌, ◌||◌, ℕ, Bool, false, not, List, [], ◌∷◌, codes, decimal}
+use Rattle.std.specs.Prelude.{count_by, filter, string_bytes}
+use Rattle.std.specs.Str.{bytes_eq}
 use Rattle.tv_model.specs.declared.program.Mode.{Mode}
 use Rattle.tv_model.specs.declared.program.Mode.TheVariants.{Given}
-use Rattle.tv_words.specs.Words.{HasFlags, IsMax, LineForm, StandsOn}
+use Rattle.tv_words.specs.Words.{HasFlags, IsMax, LineForm, StandsOn, once}
 use Rattle.tv_explain_words.specs.declared.words.Analyzed.{Analyzed}
 use Rattle.tv_explain_words.specs.declared.words.Command.{Command}
+use Rattle.tv_explain_words.specs.declared.words.LossOptions.{LossOptions}
 use Rattle.tv_explain_words.specs.declared.words.Command.TheVariants.{Show, Edges, Message, Structure, Losses}
 use Rattle.tv_explain_words.specs.declared.words.Command.TheVariants.{Compiled, Step, Plan, Counts, Complete}
 
@@ -32,7 +34,7 @@ pub data CommandForm : Type 0 where
   ListsEdges : (program : List ℕ) → CommandForm
   TellsMessage : (of : AnalyzedForm) → (edge number : ℕ) → CommandForm
   TellsStructure : (of : AnalyzedForm) → (node : List ℕ) → (index : ℕ) → CommandForm
-  TellsLosses : (of : AnalyzedForm) → CommandForm
+  TellsLosses : (of : AnalyzedForm) → (how : LossOptions) → CommandForm
   Compiles : (source : List ℕ) → CommandForm
   TakesStep : (of : AnalyzedForm) → (edge : ℕ) → CommandForm
   TellsPlan : (program : List ℕ) → (mode : Mode) → (delta : Bool) → CommandForm
@@ -44,12 +46,16 @@ form_of (Show program report) = Shows (string_bytes program) (string_bytes repor
 form_of (Edges program) = ListsEdges (string_bytes program)
 form_of (Message of edge number) = TellsMessage (analyzed_of of) edge number
 form_of (Structure of node index) = TellsStructure (analyzed_of of) (string_bytes node) index
-form_of (Losses of) = TellsLosses (analyzed_of of)
+form_of (Losses of how) = TellsLosses (analyzed_of of) how
 form_of (Compiled source) = Compiles (string_bytes source)
 form_of (Step of edge) = TakesStep (analyzed_of of) edge
 form_of (Plan program mode delta) = TellsPlan (string_bytes program) mode delta
 form_of (Counts of) = TellsCounts (analyzed_of of)
 form_of (Complete program structures) = Completes (string_bytes program) (string_bytes structures)
+
+-- no own flag stands
+abbrev pub no_options : LossOptions
+no_options = record { cases = false; join = false }
 
 -- this is said of the command
 abbrev pub SaidOf : (CommandForm → Type 0) → Command → Type 0
@@ -61,7 +67,7 @@ command_word (Shows program report) = codes "show"
 command_word (ListsEdges program) = codes "edges"
 command_word (TellsMessage of edge number) = codes "message"
 command_word (TellsStructure of node index) = codes "structure"
-command_word (TellsLosses of) = codes "losses"
+command_word (TellsLosses of how) = codes "losses"
 command_word (Compiles source) = codes "compiled"
 command_word (TakesStep of edge) = codes "step"
 command_word (TellsPlan program mode delta) = codes "plan"
@@ -81,7 +87,7 @@ abbrev pub HasOptions : LineForm → AnalyzedForm → Type 0
 HasOptions line of = HasFlags line of.mode of.delta false × IsMax line.max of.max
 
 -- a line says a command: it has the command's operands, each option of the command once at most, and no other
--- option
+-- option. Own flags of `losses` stand beside the line
 abbrev pub Says : LineForm → CommandForm → Type 0
 Says line (Shows program report) = (line.operands ≡ program ∷ report ∷ []) × IsPlain line
 Says line (ListsEdges program) = (line.operands ≡ program ∷ []) × IsPlain line
@@ -90,7 +96,8 @@ Says line (TellsMessage of edge number) = (e n : List ℕ)
     × IsNumber n number
 Says line (TellsStructure of node index) = (n : List ℕ)
     × (line.operands ≡ of.program ∷ of.initial ∷ node ∷ n ∷ []) × HasOptions line of × IsNumber n index
-Says line (TellsLosses of) = (line.operands ≡ of.program ∷ of.initial ∷ []) × HasOptions line of
+Says line (TellsLosses of how) = (line.operands ≡ of.program ∷ of.initial ∷ []) × HasOptions line of
+    × (how ≡ no_options)
 Says line (Compiles source) = (line.operands ≡ source ∷ []) × IsPlain line
 Says line (TakesStep of edge) = (e : List ℕ) × (line.operands ≡ of.program ∷ of.initial ∷ e ∷ [])
     × HasOptions line of × (line.max ≡ []) × IsNumber e edge
@@ -99,11 +106,44 @@ Says line (TellsPlan program mode delta) = (line.operands ≡ program ∷ []) ×
 Says line (TellsCounts of) = (line.operands ≡ of.program ∷ of.initial ∷ []) × HasOptions line of
 Says line (Completes program structures) = (line.operands ≡ program ∷ structures ∷ []) × IsPlain line
 
--- a line that stands on the words says the command
+-- ---- own flags of `losses`
+
+abbrev pub cases_flag : List ℕ
+cases_flag = codes "--cases"
+
+abbrev pub join_flag : List ℕ
+join_flag = codes "--join"
+
+-- the word is an own flag of the command of this name
+abbrev pub is_own : (name word : List ℕ) → Bool
+is_own name word = bytes_eq name (codes "losses") && (bytes_eq word cases_flag || bytes_eq word join_flag)
+
+-- the words but for the command's own flags
+abbrev pub others_of : (name : List ℕ) → List (List ℕ) → List (List ℕ)
+others_of name words = filter (λ word. not (is_own name word)) words
+
+-- how often the word stands
+abbrev pub flag_uses : (flag : List ℕ) → List (List ℕ) → ℕ
+flag_uses flag words = count_by (λ word. bytes_eq word flag) words
+
+-- each own flag stands once where it is set, else not at all
+abbrev pub HasOwn : List (List ℕ) → CommandForm → Type 0
+HasOwn words (TellsLosses of how) =
+    (flag_uses cases_flag words ≡ once how.cases) × (flag_uses join_flag words ≡ once how.join)
+HasOwn words other = Unit {0}
+
+-- the command without its own flags
+abbrev pub plain_of : CommandForm → CommandForm
+plain_of (TellsLosses of how) = TellsLosses of no_options
+plain_of other = other
+
+-- own flags of the command stand among the words, wherever, and a line that stands on the others says the
+-- rest of it
 pub record IsRest (words : List (List ℕ)) (command : CommandForm) : Type 0 where
   pub line : LineForm
-  pub stands : StandsOn words line
-  pub says : Says line command
+  pub stands : StandsOn (others_of (command_word command) words) line
+  pub says : Says line (plain_of command)
+  pub own : HasOwn words command
 
 -- the words spell this command: its name, and the rest behind it
 abbrev pub Spells : List (List ℕ) → CommandForm → Type 0
@@ -130,3 +170,8 @@ IsAsked program initial line of = (of.program ≡ program) × (of.initial ≡ in
 -- the line has the options of no analysis
 abbrev pub AsksNothing : LineForm → Type 0
 AsksNothing line = (of : AnalyzedForm) → ¬ HasOptions line of
+
+-- the command with its own flags so
+abbrev pub with_flags : (how : LossOptions) → CommandForm → CommandForm
+with_flags how (TellsLosses of h) = TellsLosses of how
+with_flags how other = other

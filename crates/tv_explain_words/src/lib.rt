@@ -5,4 +5,4 @@ mod laws;
 mod words;
 
 pub use laws::one_command;
-pub use words::{Analyzed, Command, read_words};
+pub use words::{Analyzed, Command, LossOptions, read_words};

@@ -1,10 +1,14 @@
 //! The words after the program's name.
 
-ghost use Rattle.std.specs.Prelude.{◌≡◌, ℕ, List, [], ◌∷◌, IfOk, IfSome, IfNone, codes};
+ghost use Rattle.std.specs.Prelude.{◌≡◌, ◌++◌, ℕ, Bool, List, [], ◌∷◌, IfOk, IfSome, IfNone, OnOk, codes, string_bytes};
+ghost use Rattle.std.specs.Prelude.{if◌then◌else◌};
+ghost use Rattle.std.specs.Str.{bytes_eq};
 ghost use Rattle.tv_words.specs.Setup.{line_in, told_texts};
-ghost use Rattle.tv_words.specs.Words.{words_of};
+ghost use Rattle.tv_words.specs.Words.{once, words_of};
 ghost use Rattle.tv_explain_words.specs.Words.{IsNumber, IsSaid, NoneSaid, Spells, SpellsNothing, SaidOf};
-ghost use Rattle.tv_explain_words.specs.Words.{AsksNothing, IsAsked, analyzed_of};
+ghost use Rattle.tv_explain_words.specs.Words.{AsksNothing, IsAsked, analyzed_of, form_of, is_own, others_of};
+ghost use Rattle.tv_explain_words.specs.Words.{HasOwn, flag_uses, with_flags};
+ghost use Rattle.tv_explain_words.specs.declared.words.LossOptions.{LossOptions};
 
 use itoa::Buffer;
 use std::alloc::{AllocError, Global};
@@ -23,6 +27,14 @@ pub struct Analyzed {
     pub max: u64,
     pub mode: Mode,
     pub delta: bool,
+}
+
+/// How losses are told: with `cases` each lost case, else of each edge the first; with `join` those of the joined
+/// analysis.
+#[derive(Clone, Copy, Debug)]
+pub struct LossOptions {
+    pub cases: bool,
+    pub join: bool,
 }
 
 /// What the words ask for. Files are told by their names, as the words give them.
@@ -53,6 +65,7 @@ pub enum Command {
     /// Writes what the analysis loses.
     Losses {
         of: Analyzed,
+        how: LossOptions,
     },
     /// Writes the program that a source program is compiled to.
     Compiled {
@@ -224,7 +237,11 @@ fn losses(alloc: Global, line: &Line<'_, '_>) -> Result<Option<Command>, AllocEr
     let Some(of) = asked(alloc, line, program, initial)? else {
         return Ok(None);
     };
-    Ok(Some(Command::Losses { of }))
+    let how = LossOptions {
+        cases: false,
+        join: false,
+    };
+    Ok(Some(Command::Losses { of, how }))
 }
 
 /// The command of the name `compiled` that the line says.
@@ -337,6 +354,87 @@ fn said(alloc: Global, name: &str, line: &Line<'_, '_>) -> Result<Option<Command
     }
 }
 
+/// Whether the word is an own flag of the command of this name.
+fn is_own(name: &str, word: &str) -> bool
+    ensures { result ≡ is_own name.now word.now }
+{
+    name == "losses" && (word == "--cases" || word == "--join")
+}
+
+/// Puts the word behind the others, unless it is to be passed over.
+fn push_unless(others: &mut Vec<String>, passed: bool, word: String) -> Result<(), AllocError>
+    ensures { OnOk result (words_of others.new.items
+        ≡ (if passed then words_of others.old.items else words_of others.old.items ++ string_bytes word ∷ [])) }
+{
+    if passed {
+        return Ok(());
+    }
+    Ok(others.push(word)?)
+}
+
+/// The words but for own flags of the command of this name.
+fn others_of(alloc: Global, name: &str, words: &[String]) -> Result<Vec<String>, AllocError>
+    ensures { IfOk result (λ others. words_of others.items ≡ others_of name.now (words_of words.now)) }
+{
+    let mut others = Vec::new(alloc);
+    for word in words {
+        let own = is_own(name, word.as_str());
+        push_unless(&mut others, own, String::from_str(alloc, word.as_str())?)?;
+    }
+    Ok(others)
+}
+
+/// 1 where the word is this flag, else 0.
+fn use_of(flag: &str, word: &str) -> usize
+    ensures { result ≡ (if bytes_eq word.now flag.now then 1 else 0) }
+{
+    if word == flag {
+        return 1;
+    }
+    0
+}
+
+/// How often the flag stands.
+fn flag_uses(flag: &str, words: &[String]) -> usize
+    ensures { result ≡ flag_uses flag.now (words_of words.now) }
+{
+    let mut uses = 0;
+    for i in 0..words.len() {
+        uses += use_of(flag, words[i].as_str());
+    }
+    uses
+}
+
+/// Whether the flag stands, where it stands once at most.
+fn flag_in(flag: &str, words: &[String]) -> Option<bool>
+    ensures some { IfSome result (λ on. flag_uses flag.now (words_of words.now) ≡ once on) }
+    ensures none { IfNone result ((on : Bool) → ¬ (flag_uses flag.now (words_of words.now) ≡ once on)) }
+{
+    match flag_uses(flag, words) {
+        0 => Some(false),
+        1 => Some(true),
+        _ => None,
+    }
+}
+
+/// The command with those of its own flags that stand among the words.
+fn flagged(command: Command, words: &[String]) -> Option<Command>
+    ensures some { IfSome result (λ found. (how : LossOptions)
+        × (form_of found ≡ with_flags how (form_of command)) × HasOwn (words_of words.now) (form_of found)) }
+    ensures none { IfNone result ((how : LossOptions)
+        → ¬ HasOwn (words_of words.now) (with_flags how (form_of command))) }
+{
+    match command {
+        Command::Losses { of, .. } => {
+            let cases = flag_in("--cases", words)?;
+            let join = flag_in("--join", words)?;
+            let how = LossOptions { cases, join };
+            Some(Command::Losses { of, how })
+        }
+        other => Some(other),
+    }
+}
+
 /// The command that the words spell, and none exactly where they spell none.
 ///
 /// # Errors
@@ -348,8 +446,12 @@ pub fn read_words(alloc: Global, words: &[String]) -> Result<Option<Command>, Al
     let Some((name, behind)) = words.split_first() else {
         return Ok(None);
     };
-    let Some(matches) = read_line(command_line(alloc)?, behind)? else {
+    let others = others_of(alloc, name.as_str(), behind)?;
+    let Some(matches) = read_line(command_line(alloc)?, others.as_slice())? else {
         return Ok(None);
     };
-    said(alloc, name.as_str(), &told_line(&matches))
+    let Some(command) = said(alloc, name.as_str(), &told_line(&matches))? else {
+        return Ok(None);
+    };
+    Ok(flagged(command, behind))
 }

@@ -55,7 +55,7 @@ node L2 structures 1
 pub const USAGE: &str = "usage: \
 tvla-explain message PROGRAM INITIAL EDGE NUMBER [--max-structures N] [--recompute | --delta]
        tvla-explain structure PROGRAM INITIAL NODE INDEX [--max-structures N] [--recompute | --delta]
-       tvla-explain losses PROGRAM INITIAL [--max-structures N] [--recompute | --delta]
+       tvla-explain losses PROGRAM INITIAL [--cases] [--join] [--max-structures N] [--recompute | --delta]
        tvla-explain show PROGRAM REPORT
        tvla-explain edges PROGRAM
        tvla-explain compiled SOURCE

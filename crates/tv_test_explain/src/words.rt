@@ -27,6 +27,10 @@ structure p i L0 first
 losses p
 losses p i 0
 losses p i --maps
+losses p i --cases --cases
+losses p i --join --cases --join
+counts p i --join
+counts p i --cases
 losses p i --delta --recompute
 losses p i --max-structures=0
 compile s
