@@ -1,5 +1,5 @@
 -- Laws of explanations, as statements.
-use Rattle.std.specs.Prelude.{ℕ, ◌≡◌, ◌↔◌, List, Some, Contains, length}
+use Rattle.std.specs.Prelude.{ℕ, ◌≡◌, ◌↔◌, List, Some, Contains, codes, length}
 use Rattle.tv_listing.specs.declared.analysis.MessageLine.{MessageLine}
 use Rattle.tv_model.specs.Program.{ProgramForm}
 use Rattle.tv_model.specs.declared.program.Mode.{Mode}
@@ -10,8 +10,15 @@ use Rattle.tv_trail_laws.specs.Trails.{IsShortest}
 use Rattle.tv_trail_laws.specs.declared.trail.Trail.{Trail}
 use Rattle.tv_work.specs.Analyzed.{IsAnalysis}
 use Rattle.tv_work.specs.Reach.{Point}
-use Rattle.tv_explain.specs.Answers.{IsText}
-use Rattle.tv_explain_words.specs.Words.{CommandForm, Shows, ListsEdges, Compiles}
+use Rattle.tv_explain.specs.Answers.{IsMessageText, IsText}
+use Rattle.tv_explain.specs.Meaning.{drawn_form}
+use Rattle.tv_explain.specs.declared.inputs.Inputs.{Inputs}
+use Rattle.tv_explain_words.specs.Words.{AnalyzedForm, CommandForm, Shows, ListsEdges, Compiles}
+
+-- no line tells of the message
+abbrev pub HasNoLine : List MessageLine → (edge number : ℕ) → Type 0
+HasNoLine lines edge number =
+    (line : MessageLine) → Contains lines line → ¬ ((line.edge ≡ edge) × (line.number ≡ number))
 
 -- where an analysis ends within its limits, no reached structure raises a message exactly where none of its
 -- lines tells of it
@@ -19,7 +26,14 @@ abbrev pub SilenceIsNoLine : Type 0
 SilenceIsNoLine = (p : ProgramForm) (mode : Mode) (initial : List StructureForm) (max : ℕ)
     (listing : List (List StructureForm)) (lines : List MessageLine) (edge number : ℕ)
     → IsAnalysis p mode initial max listing lines → IsNeverRaised p mode initial edge number
-    ↔ ((line : MessageLine) → Contains lines line → ¬ ((line.edge ≡ edge) × (line.number ≡ number)))
+    ↔ HasNoLine lines edge number
+
+-- and there an answer of `message` is `no message` exactly where none does
+abbrev pub NoMessageIsNoLine : Type 0
+NoMessageIsNoLine = (of : AnalyzedForm) (inputs : Inputs) (listing : List (List StructureForm))
+    (lines : List MessageLine) (edge number : ℕ) (text : List ℕ)
+    → IsAnalysis (drawn_form inputs) of.mode inputs.initial of.max listing lines
+    → IsMessageText of inputs edge number text → (text ≡ codes "no message\n") ↔ HasNoLine lines edge number
 
 -- it writes of its files what no choice of the code is in
 abbrev pub HasOneText : CommandForm → Type 0
