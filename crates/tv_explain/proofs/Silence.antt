@@ -15,7 +15,7 @@ use Rattle.tv_trail.specs.Reasons.{IsNeverRaised}
 use Rattle.tv_work.specs.Analyzed.{IsAnalysis, IsSaid}
 use Rattle.tv_work.specs.Reach.{IsReached, Point}
 use Rattle.tv_explain.specs.Answers.{IsMessageText, TellsOfMessage}
-use Rattle.tv_explain.specs.Laws.{HasNoLine, NoMessageIsNoLine, SilenceIsNoLine}
+use Rattle.tv_explain.specs.Laws.{NoLineTells, NoMessageIsNoLine, SilenceIsNoLine}
 use Rattle.tv_explain.specs.Meaning.{drawn_form}
 use Rattle.tv_explain.specs.declared.inputs.Inputs.{Inputs}
 use Rattle.tv_explain_words.specs.Words.{AnalyzedForm}
@@ -27,7 +27,7 @@ module _ (p : ProgramForm) (mode : Mode) (initial : List StructureForm) (max : �
   line_of k = record { edge = edge; number = number; value = k }
 
   -- what a line tells of is raised
-  never : IsNeverRaised p mode initial edge number → HasNoLine lines edge number
+  never : IsNeverRaised p mode initial edge number → NoLineTells lines edge number
   never silent line there (at_edge, at_number) =
       let told = (analysis.reported line).0 there in
       told.some (silent told.said.at line.value told.said.source.has (record {
@@ -54,7 +54,7 @@ module _ (p : ProgramForm) (mode : Mode) (initial : List StructureForm) (max : �
   }
 
   -- the greatest value that is said has a line
-  none_surely : HasNoLine lines edge number → ¬ IsSaid p (IsReached p mode initial) edge number Yes
+  none_surely : NoLineTells lines edge number → ¬ IsSaid p (IsReached p mode initial) edge number Yes
   none_surely none said = none (line_of Yes) ((analysis.reported (line_of Yes)).1 (record {
     some = λ e. cc;
     said = said;
@@ -66,7 +66,7 @@ module _ (p : ProgramForm) (mode : Mode) (initial : List StructureForm) (max : �
       yes_greatest Half = refl
       yes_greatest Yes = refl
 
-  none_maybe : HasNoLine lines edge number → ¬ IsSaid p (IsReached p mode initial) edge number Half
+  none_maybe : NoLineTells lines edge number → ¬ IsSaid p (IsReached p mode initial) edge number Half
   none_maybe none said = none (line_of Half) ((analysis.reported (line_of Half)).1 (record {
     some = λ e. cc;
     said = said;
@@ -78,12 +78,12 @@ module _ (p : ProgramForm) (mode : Mode) (initial : List StructureForm) (max : �
       half_greatest Half other = refl
       half_greatest Yes other = absurd (none_surely none other)
 
-  unsaid : HasNoLine lines edge number → (k : K3) → IsSaid p (IsReached p mode initial) edge number k → k ≡ No
+  unsaid : NoLineTells lines edge number → (k : K3) → IsSaid p (IsReached p mode initial) edge number k → k ≡ No
   unsaid none No said = refl
   unsaid none Half said = absurd (none_maybe none said)
   unsaid none Yes said = absurd (none_surely none said)
 
-  silent : HasNoLine lines edge number → IsNeverRaised p mode initial edge number
+  silent : NoLineTells lines edge number → IsNeverRaised p mode initial edge number
   silent none x k reached has = unsaid none k (said_at x k reached has)
 
 pub silence : SilenceIsNoLine
@@ -99,7 +99,7 @@ module _ (lead : TrailsLeadToLines) (of : AnalyzedForm) (inputs : Inputs) (listi
     (analysis : IsAnalysis (drawn_form inputs) of.mode inputs.initial of.max listing lines) where
   -- a chain begins with another letter
   none_told : (message : MessageForm) → TellsOfMessage of inputs edge number message text
-      → text ≡ codes "no message\n" → HasNoLine lines edge number
+      → text ≡ codes "no message\n" → NoLineTells lines edge number
   none_told message (inl raised) is =
       let first : 105 ≡ 110 = ap (λ (l : List ℕ). get_or l 0 0) (sym raised.4 ∙ is) in
       absurd (omega (arith, first))
@@ -107,7 +107,7 @@ module _ (lead : TrailsLeadToLines) (of : AnalyzedForm) (inputs : Inputs) (listi
       (silence (drawn_form inputs) of.mode inputs.initial of.max listing lines edge number analysis).0 silent.0
 
   told_none : (message : MessageForm) → TellsOfMessage of inputs edge number message text
-      → HasNoLine lines edge number → text ≡ codes "no message\n"
+      → NoLineTells lines edge number → text ≡ codes "no message\n"
   told_none message (inl raised) none =
       absurd (none (record { edge = edge; number = number; value = raised.1 })
       (lead (drawn_form inputs) of.mode inputs.initial of.max listing lines edge number raised.0 raised.1 analysis

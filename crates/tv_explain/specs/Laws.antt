@@ -16,8 +16,8 @@ use Rattle.tv_explain.specs.declared.inputs.Inputs.{Inputs}
 use Rattle.tv_explain_words.specs.Words.{AnalyzedForm, CommandForm, Shows, ListsEdges, Compiles}
 
 -- no line tells of the message
-abbrev pub HasNoLine : List MessageLine → (edge number : ℕ) → Type 0
-HasNoLine lines edge number =
+abbrev pub NoLineTells : List MessageLine → (edge number : ℕ) → Type 0
+NoLineTells lines edge number =
     (line : MessageLine) → Contains lines line → ¬ ((line.edge ≡ edge) × (line.number ≡ number))
 
 -- where an analysis ends within its limits, no reached structure raises a message exactly where none of its
@@ -26,14 +26,14 @@ abbrev pub SilenceIsNoLine : Type 0
 SilenceIsNoLine = (p : ProgramForm) (mode : Mode) (initial : List StructureForm) (max : ℕ)
     (listing : List (List StructureForm)) (lines : List MessageLine) (edge number : ℕ)
     → IsAnalysis p mode initial max listing lines → IsNeverRaised p mode initial edge number
-    ↔ HasNoLine lines edge number
+    ↔ NoLineTells lines edge number
 
 -- and there an answer of `message` is `no message` exactly where none does
 abbrev pub NoMessageIsNoLine : Type 0
 NoMessageIsNoLine = (of : AnalyzedForm) (inputs : Inputs) (listing : List (List StructureForm))
     (lines : List MessageLine) (edge number : ℕ) (text : List ℕ)
     → IsAnalysis (drawn_form inputs) of.mode inputs.initial of.max listing lines
-    → IsMessageText of inputs edge number text → (text ≡ codes "no message\n") ↔ HasNoLine lines edge number
+    → IsMessageText of inputs edge number text → (text ≡ codes "no message\n") ↔ NoLineTells lines edge number
 
 -- it writes of its files what no choice of the code is in
 abbrev pub HasOneText : CommandForm → Type 0

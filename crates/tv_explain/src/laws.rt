@@ -1,7 +1,8 @@
 //! Laws of explanations. Each function does nothing of its own: its clause is what it shows.
 
 ghost use Rattle.tv_explain.specs.Edges.{EdgesAreKept};
-ghost use Rattle.tv_explain.specs.Laws.{NoMessageIsNoLine, ShortestTrailsAreAsLong, SilenceIsNoLine, TextsAreOne};
+ghost use Rattle.tv_explain.specs.Laws.{NoMessageIsNoLine, ShortestTrailsAreAsLong};
+ghost use Rattle.tv_explain.specs.Laws.{SilenceIsNoLine, TextsAreOne};
 
 use tv_edge_heads::heads_are_one;
 use tv_explain_words::one_command;
@@ -16,8 +17,8 @@ pub fn silence_is_no_line()
     ensures { SilenceIsNoLine }
 {}
 
-/// Where an analysis ends, an answer of `message` is `no message` exactly where no line of its report tells of
-/// the message.
+/// Where an analysis ends, an answer of `message` is `no message` exactly where no line of its report tells
+/// of the message.
 pub fn no_message_is_no_line()
     ensures { NoMessageIsNoLine }
 {
