@@ -43,6 +43,20 @@ fn push_owned(
     Ok(())
 }
 
+/// Tells of each rule that the predicate's properties stand for that it is the predicate's.
+fn push_told(
+    alloc: Global,
+    told: &mut Vec<Bytes>,
+    p: PredId,
+    pred: &Pred,
+) -> Result<(), AllocError>
+    ensures { OnOk result (told.new.items ≡ told.old.items
+        ++ replicate (length (property_rules p.0 pred.now.props)) (owner_text pred.now.name)) }
+{
+    let count = property_count(alloc, p, pred.props)?;
+    push_owned(alloc, told, count, pred.name.as_slice())
+}
+
 /// What is told of the rules that the properties stand for.
 fn told_of_preds(alloc: Global, preds: &[Pred]) -> Result<Vec<Bytes>, AllocError>
     requires { length preds.now ≤ 512 }
@@ -50,8 +64,7 @@ fn told_of_preds(alloc: Global, preds: &[Pred]) -> Result<Vec<Bytes>, AllocError
 {
     let mut told = Vec::new(alloc);
     for (number, pred) in preds.iter().enumerate() {
-        let count = property_count(alloc, PredId(number as u32), pred.props)?;
-        push_owned(alloc, &mut told, count, pred.name.as_slice())?;
+        push_told(alloc, &mut told, PredId(number as u32), pred)?;
     }
     Ok(told)
 }
