@@ -24,6 +24,7 @@ const decoded = text => new TextDecoder().decode(Uint8Array.from(text, letter =>
 export class Explanation {
   steps = []; // of a chain: a title, and a structure, an edge or a message
   edges = []; // with their numbers, files, lines and messages
+  rules = []; // behind the edges: of each what is told, a predicate's declaration or a file and line
   nodes = []; // with structures
   losses = [];
   isNone = false; // whether it says that nothing is lost
@@ -98,11 +99,21 @@ export class Explanation {
       last.messages.push(this.string(line));
       return;
     }
+    if (last && (this.rules.length || line.sees("rule "))) return this.rule(line);
     line.take("edge ");
     const start = line.at, number = line.number(`\`${this.edges.length}\``);
     if (number !== this.edges.length) line.fault(`edge ${this.edges.length}`, start);
     line.take("  ");
     this.edges.push({ number, ...this.head(line), messages: [] });
+    if (!line.isAtEnd) line.fault("the end of the line");
+  }
+  rule(line) {
+    line.take("rule ");
+    const start = line.at, number = line.number(`\`${this.rules.length}\``);
+    if (number !== this.rules.length) line.fault(`rule ${this.rules.length}`, start);
+    line.take("  ");
+    this.rules.push(decoded(line.match(/the declaration of [A-Za-z_]\w*(?:\[[\w,]*\])?|.+?:[1-9]\d*(?=[\r\n]|$)/y,
+      "`the declaration of NAME` or `FILE:LINE`")[0]));
     if (!line.isAtEnd) line.fault("the end of the line");
   }
   shown(line) {

@@ -808,7 +808,7 @@ module _ (one : (words : List (List ℕ)) (a b : CommandForm) → Spells words a
     → GiveOne ◌≡◌ (MeansReport p text) (MeansReport q text))
   where
     -- a name holds one source program, which has one text
-    one_text : (told : Option Held) (name : List ℕ) → IsSome told → (a b : SourceText) → IsSourceText told name a
+    pub one_text : (told : Option Held) (name : List ℕ) → IsSome told → (a b : SourceText) → IsSourceText told name a
         → IsSourceText told name b → (compiled_lines a ≡ compiled_lines b) × SameProgram a.program b.program
     one_text None name tells a b h k = absurd (let e = tells in cc)
     one_text (Some held) name tells a b h k =

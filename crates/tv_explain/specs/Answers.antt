@@ -26,6 +26,7 @@ use Rattle.tv_losses_text.specs.Reports.{IsLossReport}
 use Rattle.tv_model.specs.Program.{MessageForm, ProgramForm, program_of}
 use Rattle.tv_model.specs.declared.program.Program.{Program}
 use Rattle.tv_outside.specs.Told.{Held}
+use Rattle.tv_rule_lines.specs.RuleTexts.{rules_text}
 use Rattle.tv_trail.specs.Reasons.{HasNone, IsLedToBy, IsNeverRaised, IsRaisedBy, StaysWithin}
 use Rattle.tv_step_laws.specs.Budgets.{MeetsIndividuals, MeetsSplits}
 use Rattle.tv_structure_form.specs.StructureForm.{StructureForm}
@@ -140,17 +141,25 @@ HasNoCompletion unwritten.OtherCompletion p read =
     IsCauseOfNone p read.bytes.items read.tokens.list.items read.structures completion.Differs
 HasNoCompletion other p read = ⊥
 
+-- ---- edges and rules
+
+-- the edges by number, with the messages of their actions, and behind them the rules by number
+abbrev pub listed_lines : Drawn → List ℕ
+listed_lines drawn = edges_text (program_of drawn.program) 0 drawn.heads.items
+    ++ rules_text (program_of drawn.program) drawn.rule_lines.items
+
 -- ---- answers
 
 -- The text is what the command gives, where that is a text alone: the structures of REPORT, a report on
--- PROGRAM; the control edges of PROGRAM as its text has them, with the messages of their actions; a
--- shortest trail; the program that SOURCE is compiled to; the steps of STRUCTURES; what the actions of
--- PROGRAM do to defined predicates; how many structures are listed; or STRUCTURES with what it doesn't name.
+-- PROGRAM; the control edges of PROGRAM as its text has them, with the messages of their actions, and the
+-- lines in which its rules are written; a shortest trail; the program that SOURCE is compiled to; the steps
+-- of STRUCTURES; what the actions of PROGRAM do to defined predicates; how many structures are listed; or
+-- STRUCTURES with what it doesn't name.
 abbrev pub IsText : Option Held → CommandForm → (text : List ℕ) → Type 0
 IsText told (Shows program report) text = (p : Program) × IsProgramFile told program (Ok p)
     × ((a : Analysis) × IsReportFile told report p (Ok a) × (text ≡ shown_text p a.listing))
 IsText told (ListsEdges program) text = (drawn : Drawn) × IsDrawnFile told false program drawn
-    × (text ≡ edges_text (program_of drawn.program) 0 drawn.heads.items)
+    × (text ≡ listed_lines drawn)
 IsText told (TellsMessage of edge number) text = (inputs : Inputs) × FilesMean told of inputs
     × IsMessageText of inputs edge number text
 IsText told (TellsStructure of node index) text = (inputs : Inputs) × FilesMean told of inputs

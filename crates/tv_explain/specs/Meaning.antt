@@ -9,6 +9,7 @@ use Rattle.tv_lex.specs.Traced.{IsTraced, Traced}
 use Rattle.tv_model.specs.Program.{ProgramForm, program_of}
 use Rattle.tv_model.specs.declared.program.Program.{Program}
 use Rattle.tv_outside.specs.Told.{Held, HoldsName}
+use Rattle.tv_rule_lines.specs.RuleLines.{AreRuleLines}
 use Rattle.tv_status.specs.declared.status.FileKind.{FileKind}
 use Rattle.tv_status.specs.declared.status.Role.{Role}
 use Rattle.tv_status.specs.declared.status.Role.TheVariants as role
@@ -45,7 +46,8 @@ MeansTaken true text program = (read : Program) × MeansProgram text (Ok read)
 
 -- The text means the program. The program's edges are those of the text's tree, in their order: each leaves
 -- and enters the nodes of the names that stand there. So are the heads: each is the edge as it is printed,
--- behind the file and line of which its first byte is, where the text is gathered from the named file.
+-- behind the file and line of which its first byte is, where the text is gathered from the named file; and
+-- the lines of the rules are those in which their declarations begin.
 pub record IsDrawnText (told : Option Held) (name : List ℕ) (delta : Bool) (text : List ℕ) (drawn : Drawn)
     : Type 0 where
   pub means : MeansTaken delta text drawn.program
@@ -55,6 +57,7 @@ pub record IsDrawnText (told : Option Held) (name : List ℕ) (delta : Bool) (te
   pub traced : List Traced
   pub come : IsTraced told name traced
   pub heads : AreHeads traced text tree drawn.heads.items
+  pub rule_lines : AreRuleLines traced text tree drawn.rule_lines.items
 
 -- so does the text of the named file, with its includes put in
 abbrev pub IsDrawnFile : Option Held → (delta : Bool) → (name : List ℕ) → Drawn → Type 0

@@ -6,15 +6,19 @@ use Rattle.std.proofs.Common.{append_assoc}
 use Rattle.std.specs.Prelude.{codes, min, if◌then◌else◌}
 use Rattle.std.specs.List.{count_by, slice_range}
 use Rattle.std.specs.Str.{bytes_eq}
-use Rattle.std.proofs.lemmas.List.{drop_all, append-nil}
+use Rattle.std.proofs.lemmas.List.{drop_all, drop_more, append-nil}
 use Rattle.std.proofs.lemmas.List.Sums.{sum_by-append}
 use Rattle.tv_lex.specs.Token.{text_of}
 use Rattle.tv_lex.specs.Places.{place_at}
 use Rattle.tv_lex.specs.declared.token.Token.{Token}
-use Rattle.tv_compiled.specs.Notes.{test_len, further_text, blank_between, behind_brace, body_notes}
-use Rattle.tv_compiled.specs.Notes.{notes_here}
-use Rattle.tv_compiled.specs.Notes.{skip_behind}
-use Rattle.tv_compiled.proofs.Turns.{rest_at}
+use Rattle.tv_notes.specs.Notes.{test_len, further_text, blank_between, behind_brace, body_notes}
+use Rattle.tv_notes.specs.Notes.{notes_here}
+use Rattle.tv_notes.specs.Notes.{skip_behind}
+
+-- what is left of a list is its next item and what is left behind it
+pub rest_at : {T : Type 0} (xs : List T) (i : ℕ) (x : T) → i < length xs → x ≡ get_or xs i x
+    → drop i xs ≡ x ∷ drop (i + 1) xs
+rest_at xs i x below is = drop_more xs i x below ∙ ap (λ y. y ∷ drop (i + 1) xs) (sym is)
 
 module _ (bytes : List ℕ) (ts : List Token) (i : ℕ) (t : Token) (below : i < length ts) (is : t ≡ get_or ts i t) where
   pub test_ends : bytes_eq (text_of bytes t) (codes ")") ≡ true → test_len bytes (drop i ts) ≡ 1
@@ -50,14 +54,16 @@ module _ (bytes : List ℕ) (ts : List Token) (i : ℕ) (t : Token) (below : i <
       (further_text bytes (text_of bytes t) (drop (i + 1) ts)))
       ∙ ap (λ rest. out ++ further_text bytes before rest) (sym (rest_at ts i t below is))
 
-  pub notes_turn : (skip line : ℕ) (notes new : List (List ℕ)) → line ≡ (place_at bytes (min t.start (length bytes))).line
+  pub notes_turn : (skip line : ℕ) (notes new : List (List ℕ))
+      → line ≡ (place_at bytes (min t.start (length bytes))).line
       → new ≡ notes ++ notes_here bytes skip line (drop i ts)
       → new ++ body_notes bytes (skip_behind bytes skip (drop i ts)) (drop (i + 1) ts)
       ≡ notes ++ body_notes bytes skip (drop i ts)
   notes_turn skip line notes new is_line grown =
       (λ j. (grown ∙ (λ k. notes ++ notes_here bytes skip (is_line k) (rest_at ts i t below is k))) j
       ++ body_notes bytes (skip_behind bytes skip (rest_at ts i t below is j)) (drop (i + 1) ts))
-      ∙ append_assoc notes (notes_here bytes skip (place_at bytes (min t.start (length bytes))).line (t ∷ drop (i + 1) ts))
+      ∙ append_assoc notes (notes_here bytes skip (place_at bytes (min t.start (length bytes))).line
+      (t ∷ drop (i + 1) ts))
       (body_notes bytes (skip_behind bytes skip (t ∷ drop (i + 1) ts)) (drop (i + 1) ts))
       ∙ ap (λ rest. notes ++ body_notes bytes skip rest) (sym (rest_at ts i t below is))
 

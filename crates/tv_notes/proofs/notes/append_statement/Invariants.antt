@@ -1,6 +1,6 @@
 use Rattle.std.proofs.Common.{◌≡◌, ◌++◌, drop}
-use Rattle.tv_compiled.specs.Notes.{further_text, statement_text}
-use Rattle.tv_compiled.proofs.notes.append_statement.Given as goal
+use Rattle.tv_notes.specs.Notes.{further_text, statement_text}
+use Rattle.tv_notes.proofs.notes.append_statement.Given as goal
 
 -- what is written and what is left are all of it
 abbrev pub invariant-loop-token : goal.invariant-loop-token

@@ -5,10 +5,10 @@ ghost use Rattle.std.specs.Prelude.{◌≡◌, ◌≤◌, ◌++◌, ◌+◌, ◌
 ghost use Rattle.std.specs.List.{count_by};
 ghost use Rattle.tv_lex.specs.Bytes.{longest_text};
 ghost use Rattle.tv_lex.specs.Places.{place_at};
-ghost use Rattle.tv_compiled.specs.Notes.{stands_at, begins_test, begins_none, test_len, assignment_len};
-ghost use Rattle.tv_compiled.specs.Notes.{statement_len, blank_between, further_text};
-ghost use Rattle.tv_compiled.specs.Notes.{statement_text, note, notes_at, statement_notes, notes_here};
-ghost use Rattle.tv_compiled.specs.Notes.{skip_behind, body_notes, behind_brace, program_notes};
+ghost use Rattle.tv_notes.specs.Notes.{stands_at, begins_test, begins_none, test_len, assignment_len};
+ghost use Rattle.tv_notes.specs.Notes.{statement_len, blank_between, further_text};
+ghost use Rattle.tv_notes.specs.Notes.{statement_text, note, notes_at, statement_notes, notes_here};
+ghost use Rattle.tv_notes.specs.Notes.{skip_behind, body_notes, behind_brace, program_notes};
 
 use std::alloc::{AllocError, Global};
 use tv_formula_text::append_number;

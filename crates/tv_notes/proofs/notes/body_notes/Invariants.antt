@@ -1,7 +1,7 @@
 use Rattle.std.proofs.Common.{◌≡◌, ◌≤◌, ◌++◌, ◌==◌, length, take, drop}
 use Rattle.std.specs.List.{count_by}
-use Rattle.tv_compiled.specs.Notes.{body_notes}
-use Rattle.tv_compiled.proofs.notes.body_notes.Given as goal
+use Rattle.tv_notes.specs.Notes.{body_notes}
+use Rattle.tv_notes.proofs.notes.body_notes.Given as goal
 
 -- what is noted and what is left are all of it, and lines are counted up to a place
 abbrev pub invariant-loop-i : goal.invariant-loop-i
