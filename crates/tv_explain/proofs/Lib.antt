@@ -10,6 +10,8 @@ mod EdgesWired
 mod Endings
 mod OneText
 mod Questions
+mod Reports
 mod Silence
+mod Sources
 mod Steps
 mod Trees

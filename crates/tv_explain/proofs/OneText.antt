@@ -37,7 +37,8 @@ use Rattle.tv_texts.specs.Agreement.{GiveOne, SameProgram}
 use Rattle.tv_texts.specs.Files.{IsProgramFile}
 use Rattle.tv_texts.specs.Meaning.{MeansInitial, MeansProgram, MeansReport, MeansSource}
 use Rattle.tv_tree.specs.Forms.{ProgramForm as TreeForm}
-use Rattle.tv_explain.proofs.Duly.{one_text}
+use Rattle.tv_updates.specs.Meaning.{MeansUpdated}
+use Rattle.tv_explain.proofs.Sources.{one_text}
 use Rattle.tv_explain.specs.Answers.{IsText, listed_lines}
 use Rattle.tv_explain.specs.Laws.{HasOneText}
 use Rattle.tv_explain.specs.Meaning.{IsDrawnFile}
@@ -141,7 +142,7 @@ module _ (one : (words : List (List ℕ)) (a b : CommandForm) → Spells words a
     (reports : (p q : Program) → SameProgram p q → (text : List ℕ)
     → GiveOne ◌≡◌ (MeansReport p text) (MeansReport q text))
     (trees : (ts : List SpecToken) (t u : TreeForm) → IsProgram ts t → IsProgram ts u → t ≡ u)
-    (heads : HeadsAreOne) (lines : RuleLinesAreOne) (held : Held)
+    (heads : HeadsAreOne) (lines : RuleLinesAreOne) (updated : HaveOneMeaning MeansUpdated) (held : Held)
   where
     one_program : (name : List ℕ) (p q : Program) → IsProgramFile (Some held) name (Ok p)
         → IsProgramFile (Some held) name (Ok q) → SameProgram p q
@@ -189,7 +190,7 @@ module _ (one : (words : List (List ℕ)) (a b : CommandForm) → Spells words a
         let listed : listed_lines h.0 ≡ listed_lines k.0
         = λ i. edges_text (same i) 0 (edges i) ++ rules_text (same i) (rules i) in
         h.2 ∙ (listed ∙ sym k.2)
-    texts_one (Compiles source) text other one_of h k =
-        let same = one_text one reading programs sources initials reports (Some held) source refl h.0 k.0 h.1 k.1 in
+    texts_one (Compiles source updates) text other one_of h k =
+        let same = one_text reading sources updated (Some held) updates source refl h.0 k.0 h.1 k.1 in
         h.2.is ∙ (same.0 ∙ sym k.2.is)
     texts_one command text other one_of h k = absurd one_of

@@ -14,7 +14,6 @@ use Rattle.tv_plan.specs.Texts.{IsPlanText}
 use Rattle.tv_stages_laws.specs.Stages.{IsSlowStep}
 use Rattle.tv_stages_laws.specs.declared.record.SlowStep.{SlowStep}
 use Rattle.tv_stages_text.specs.Texts.{stages_text}
-use Rattle.tv_texts.specs.Sources.{IsSourceText}
 use Rattle.tv_texts.specs.Structures.{IsStructuresText}
 use Rattle.tv_texts.specs.declared.source.SourceText.{SourceText}
 use Rattle.tv_texts.specs.declared.structures.StructuresText.{StructuresText}
@@ -36,6 +35,7 @@ use Rattle.tv_trail_laws.specs.declared.trail.Trail.{Trail}
 use Rattle.tv_work.specs.Analyzed.{Meets}
 use Rattle.tv_work.specs.Reach.{AreMoreThan, IsReached, Point}
 use Rattle.tv_explain.specs.Meaning.{FilesMean, IsDrawnFile, drawn_form, heads_in}
+use Rattle.tv_explain.specs.Sources.{IsTakenText}
 use Rattle.tv_explain.specs.declared.fault.Answer.{Answer}
 use Rattle.tv_explain.specs.declared.fault.Fault.{Fault}
 use Rattle.tv_explain.specs.declared.fault.Fault.TheVariants.{Memory, NotThere, Structures}
@@ -152,9 +152,9 @@ listed_lines drawn = edges_text (program_of drawn.program) 0 drawn.heads.items
 
 -- The text is what the command gives, where that is a text alone: the structures of REPORT, a report on
 -- PROGRAM; the control edges of PROGRAM as its text has them, with the messages of their actions, and the
--- lines in which its rules are written; a shortest trail; the program that SOURCE is compiled to; the steps
--- of STRUCTURES; what the actions of PROGRAM do to defined predicates; how many structures are listed; or
--- STRUCTURES with what it doesn't name.
+-- lines in which its rules are written; a shortest trail; the program that SOURCE is compiled to, with updates
+-- or without; the steps of STRUCTURES; what the actions of PROGRAM do to defined predicates; how many
+-- structures are listed; or STRUCTURES with what it doesn't name.
 abbrev pub IsText : Option Held → CommandForm → (text : List ℕ) → Type 0
 IsText told (Shows program report) text = (p : Program) × IsProgramFile told program (Ok p)
     × ((a : Analysis) × IsReportFile told report p (Ok a) × (text ≡ shown_text p a.listing))
@@ -165,8 +165,8 @@ IsText told (TellsMessage of edge number) text = (inputs : Inputs) × FilesMean 
 IsText told (TellsStructure of node index) text = (inputs : Inputs) × FilesMean told of inputs
     × IsStructureText of inputs node index text
 IsText told (TellsLosses of how) text = ⊥
-IsText told (Compiles source) text =
-    (read : SourceText) × IsSourceText told source read × IsCompiledText read text
+IsText told (Compiles source updates) text =
+    (read : SourceText) × IsTakenText told updates source read × IsCompiledText read text
 IsText told (TakesStep of edge) text = (inputs : Inputs) × FilesMean told of inputs
     × IsStepText of inputs edge text
 IsText told (TellsPlan program mode delta) text = (drawn : Drawn) × IsDrawnFile told delta program drawn
@@ -242,7 +242,7 @@ FilesMeanSuch told (TellsStructure of node index) AreSuch =
     (inputs : Inputs) × FilesMean told of inputs × AreSuch of inputs
 FilesMeanSuch told (TellsLosses of how) AreSuch =
     (inputs : Inputs) × FilesMean told of inputs × AreSuch of inputs
-FilesMeanSuch told (Compiles source) AreSuch = ⊥
+FilesMeanSuch told (Compiles source updates) AreSuch = ⊥
 FilesMeanSuch told (TakesStep of edge) AreSuch =
     (inputs : Inputs) × FilesMean told of inputs × AreSuch of inputs
 FilesMeanSuch told (TellsPlan program mode delta) AreSuch = ⊥
@@ -252,8 +252,8 @@ FilesMeanSuch told (Completes program structures) AreSuch = ⊥
 -- it is a command on a source program, which is compiled, or on structures that are completed, and what
 -- comes of it isn't written, for this reason
 abbrev pub IsUnwritten : Option Held → CommandForm → Unwritten → Type 0
-IsUnwritten told (Compiles source) why =
-    (read : SourceText) × IsSourceText told source read × HasNoText read why
+IsUnwritten told (Compiles source updates) why =
+    (read : SourceText) × IsTakenText told updates source read × HasNoText read why
 IsUnwritten told (Completes program structures) why =
     ReadsSuch told program structures (HasNoCompletion why)
 IsUnwritten told other why = ⊥

@@ -39,7 +39,7 @@ NoMessageIsNoLine = (of : AnalyzedForm) (inputs : Inputs) (listing : List (List 
 abbrev pub HasOneText : CommandForm → Type 0
 HasOneText (Shows program report) = Unit {0}
 HasOneText (ListsEdges program) = Unit {0}
-HasOneText (Compiles source) = Unit {0}
+HasOneText (Compiles source updates) = Unit {0}
 HasOneText other = ⊥
 
 -- what the files hold fixes what `show`, `edges` and `compiled` write

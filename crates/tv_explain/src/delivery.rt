@@ -17,7 +17,7 @@ const USAGE: &[u8] =
        tvla-explain losses PROGRAM INITIAL [--cases] [--join] [--max-structures N] [--recompute | --delta]
        tvla-explain show PROGRAM REPORT
        tvla-explain edges PROGRAM
-       tvla-explain compiled SOURCE
+       tvla-explain compiled SOURCE [--updates]
        tvla-explain step PROGRAM STRUCTURES EDGE [--recompute | --delta]
        tvla-explain plan PROGRAM [--recompute | --delta]
        tvla-explain counts PROGRAM INITIAL [--max-structures N] [--recompute | --delta]

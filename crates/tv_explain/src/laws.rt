@@ -3,6 +3,7 @@
 ghost use Rattle.tv_explain.specs.Edges.{EdgesAreKept};
 ghost use Rattle.tv_explain.specs.Laws.{NoMessageIsNoLine, ShortestTrailsAreAsLong};
 ghost use Rattle.tv_explain.specs.Laws.{SilenceIsNoLine, TextsAreOne};
+ghost use Rattle.tv_explain.specs.Reports.{ReportsCoverSources};
 
 use tv_edge_heads::heads_are_one;
 use tv_explain_words::one_command;
@@ -11,6 +12,8 @@ use tv_parse::one_tree;
 use tv_rule_lines::rule_lines_are_one;
 use tv_texts::one_meaning_each;
 use tv_trail::trails_lead_to_lines;
+use tv_updates::one_meaning;
+use tv_updates_source_laws::covered_updates_cover_sources;
 
 /// No reached structure raises a message exactly where no line of the report tells of it.
 pub fn silence_is_no_line()
@@ -42,9 +45,20 @@ pub fn texts_are_one()
     one_tree();
     heads_are_one();
     rule_lines_are_one();
+    one_meaning();
 }
 
 /// Chains to a message or to a structure have as many steps, whichever of the shortest is written.
 pub fn chains_are_as_long()
     ensures { ShortestTrailsAreAsLong }
 {}
+
+/// A report on what `compiled --updates` writes covers the runs of the source program: the heap of each of
+/// their states embeds in a structure that is listed at the node of its position, and a dereference whose
+/// message has no line meets no null.
+pub fn reports_cover_sources()
+    ensures { ReportsCoverSources }
+{
+    one_meaning_each();
+    covered_updates_cover_sources();
+}

@@ -16,6 +16,7 @@ use crate::answers::answer;
 use crate::fault::{Answer, Fault, plain};
 use crate::inputs::{Drawn, load_drawn, load_inputs};
 use crate::question::Question;
+use crate::sources::taken;
 use crate::views::{complete, plan};
 use std::alloc::{AllocError, Global};
 use tv_compiled::compiled_text;
@@ -109,25 +110,31 @@ fn ask<F: Files>(
     answer(alloc, &inputs, of, question)
 }
 
-/// The program that the source program of the named file is compiled to.
+/// The program that the source program of the named file is compiled to, with updates or without.
 #[tactic(auto, using(crate::proofs::Causes::holds_unless))]
-fn compiled<F: Files>(alloc: Global, files: &mut F, source: &str) -> Result<Vec<u8>, Fault>
+fn compiled<F: Files>(
+    alloc: Global,
+    files: &mut F,
+    source: &str,
+    updates: bool,
+) -> Result<Vec<u8>, Fault>
     ensures found { IfOk result
-        (λ text. IsText (F.holds files.old) (Compiles source.now) text.items) }
-    ensures cause { IfErr result (IsCommandCause (F.holds files.old) (Compiles source.now)
+        (λ text. IsText (F.holds files.old) (Compiles source.now updates) text.items) }
+    ensures cause { IfErr result (IsCommandCause (F.holds files.old) (Compiles source.now updates)
         (Rose (F.faults files.old) (F.faults files.new)) (F.steady files.old)) }
     ensures holds { F.holds files.new ≡ F.holds files.old }
     ensures begins { OnOk result (BeginsFor (F.holds files.old) (F.begins files.old) (F.begins files.new)
-        (Compiles source.now)) }
+        (Compiles source.now updates)) }
     ensures most { FewBegins (F.holds files.old) (F.begins files.old) (F.begins files.new)
-        (Compiles source.now) }
+        (Compiles source.now updates) }
     ensures count { F.faults files.old ≤ F.faults files.new }
     ensures steady { F.steady files.old → UnlessReadFault result (F.steady files.new
         × (F.faults files.new ≡ F.faults files.old)) }
 {
     compiled_texts_are_programs();
     let read = load_source_text(alloc, files, source)?;
-    Ok(compiled_text(alloc, &read.bytes, &read.tokens, &read.program)?)
+    let taken = taken(alloc, read, updates)?;
+    Ok(compiled_text(alloc, &taken.bytes, &taken.tokens, &taken.program)?)
 }
 
 /// What the command gives.
@@ -156,7 +163,7 @@ fn execute<F: Files>(alloc: Global, files: &mut F, command: &Command) -> Result<
             ask(alloc, files, of, &Question::Structure { node, index })
         }
         Command::Losses { of, how } => ask(alloc, files, of, &Question::Losses { how: *how }),
-        Command::Compiled { source } => plain(compiled(alloc, files, source)),
+        Command::Compiled { source, updates } => plain(compiled(alloc, files, source, *updates)),
         Command::Step { of, edge } => ask(alloc, files, of, &Question::Step { edge: *edge }),
         Command::Plan {
             program,

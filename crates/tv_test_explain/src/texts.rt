@@ -58,7 +58,7 @@ tvla-explain message PROGRAM INITIAL EDGE NUMBER [--max-structures N] [--recompu
        tvla-explain losses PROGRAM INITIAL [--cases] [--join] [--max-structures N] [--recompute | --delta]
        tvla-explain show PROGRAM REPORT
        tvla-explain edges PROGRAM
-       tvla-explain compiled SOURCE
+       tvla-explain compiled SOURCE [--updates]
        tvla-explain step PROGRAM STRUCTURES EDGE [--recompute | --delta]
        tvla-explain plan PROGRAM [--recompute | --delta]
        tvla-explain counts PROGRAM INITIAL [--max-structures N] [--recompute | --delta]

@@ -38,6 +38,12 @@ compiled
 compiled s s
 compiled s --delta
 compiled s --max-structures=5
+compiled --updates
+compiled s --updates --updates
+compiled s --updates=1
+compiled -- --updates
+edges p --updates
+plan p --updates
 step p i
 step p i 0 0
 step p i L0

@@ -5,4 +5,4 @@ pub returns : goal.returns
 returns c =
     let each = c.one_meaning_each.ensures in
     texts_one c.one_command.ensures c.one_reading.ensures each.program each.source each.initial each.report
-    c.one_tree.ensures c.heads_are_one.ensures c.rule_lines_are_one.ensures
+    c.one_tree.ensures c.heads_are_one.ensures c.rule_lines_are_one.ensures c.one_meaning.ensures
