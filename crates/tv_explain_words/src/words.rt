@@ -1,21 +1,26 @@
 //! The words after the program's name.
 
 ghost use Rattle.std.specs.Prelude.{◌≡◌, ℕ, List, [], ◌∷◌, IfOk, IfSome, IfNone, codes};
-ghost use Rattle.tv_words.specs.Setup.{line_in, told_texts};
+ghost use Rattle.tv_words.specs.Setup.{told_texts};
 ghost use Rattle.tv_words.specs.Words.{words_of};
 ghost use Rattle.tv_explain_words.specs.Words.{IsNumber, IsSaid, NoneSaid, Spells, SpellsNothing, SaidOf};
-ghost use Rattle.tv_explain_words.specs.Words.{AsksNothing, IsAsked, analyzed_of};
+ghost use Rattle.tv_explain_words.specs.Words.{AsksNothing, IsAsked, analyzed_of, asked_in};
 
+use crate::asked::{AskedLine, asked_command, has_no_style, is_plain, style_of, told_asked};
 use itoa::Buffer;
 use std::alloc::{AllocError, Global};
 use tv_model::Mode;
-use tv_words::{
-    Line, command_line, four, has_no_flags, has_values, max_of, one, read_line, told_line, two,
-    updating,
-};
+use tv_words::{four, has_values, max_of, one, read_line, two, updating};
+
+/// How chains are told: with `unknown`, behind each step what became unknown.
+#[derive(Clone, Copy, Debug, PartialEq, Eq)]
+pub struct Style {
+    pub unknown: bool,
+}
 
 /// What an analysis is asked, as for `tvla analyze`: its files by their names, how many structures may be
-/// listed, and the mode; with `delta` the differenced program is taken, and the mode is `Given`.
+/// listed, and the mode; with `delta` the differenced program is taken, and the mode is `Given`. `style` is
+/// that of chains.
 #[derive(Debug, Drop)]
 pub struct Analyzed {
     pub program: String,
@@ -23,6 +28,7 @@ pub struct Analyzed {
     pub max: u64,
     pub mode: Mode,
     pub delta: bool,
+    pub style: Style,
 }
 
 /// What the words ask for. Files are told by their names, as the words give them.
@@ -111,41 +117,45 @@ fn three<'a>(operands: Option<&[&'a str]>) -> Option<(&'a str, &'a str, &'a str)
 /// The analysis of these files that the line's options ask for.
 fn asked(
     alloc: Global,
-    line: &Line<'_, '_>,
+    line: &AskedLine<'_, '_>,
     program: &str,
     initial: &str,
 ) -> Result<Option<Analyzed>, AllocError>
     ensures some { IfOk result (λ found. IfSome found
-        (λ a. IsAsked program.now initial.now (line_in line.now) (analyzed_of a))) }
-    ensures none { IfOk result (λ found. IfNone found (AsksNothing (line_in line.now))) }
+        (λ a. IsAsked program.now initial.now (asked_in line.now) (analyzed_of a))) }
+    ensures none { IfOk result (λ found. IfNone found (AsksNothing (asked_in line.now))) }
 {
-    let Some((mode, delta)) = updating(line.recompute, line.delta) else {
+    let Some((mode, delta)) = updating(line.line.recompute, line.line.delta) else {
         return Ok(None);
     };
-    let Some(max) = max_of(line.max) else {
+    let Some(max) = max_of(line.line.max) else {
         return Ok(None);
     };
-    if line.maps != 0 {
+    if line.line.maps != 0 {
         return Ok(None);
     }
+    let Some(style) = style_of(line) else {
+        return Ok(None);
+    };
     Ok(Some(Analyzed {
         program: String::from_str(alloc, program)?,
         initial: String::from_str(alloc, initial)?,
         max,
         mode,
         delta,
+        style,
     }))
 }
 
 /// The command of the name `show` that the line says.
-fn show(alloc: Global, line: &Line<'_, '_>) -> Result<Option<Command>, AllocError>
-    ensures some { IfOk result (λ found. IfSome found (SaidOf (IsSaid (codes "show") (line_in line.now)))) }
-    ensures none { IfOk result (λ found. IfNone found (NoneSaid (codes "show") (line_in line.now))) }
+fn show(alloc: Global, line: &AskedLine<'_, '_>) -> Result<Option<Command>, AllocError>
+    ensures some { IfOk result (λ found. IfSome found (SaidOf (IsSaid (codes "show") (asked_in line.now)))) }
+    ensures none { IfOk result (λ found. IfNone found (NoneSaid (codes "show") (asked_in line.now))) }
 {
-    let Some((program, report)) = two(line.operands) else {
+    let Some((program, report)) = two(line.line.operands) else {
         return Ok(None);
     };
-    if !has_no_flags(line) || has_values(line.max) {
+    if !is_plain(line) {
         return Ok(None);
     }
     Ok(Some(Command::Show {
@@ -155,14 +165,14 @@ fn show(alloc: Global, line: &Line<'_, '_>) -> Result<Option<Command>, AllocErro
 }
 
 /// The command of the name `edges` that the line says.
-fn edges(alloc: Global, line: &Line<'_, '_>) -> Result<Option<Command>, AllocError>
-    ensures some { IfOk result (λ found. IfSome found (SaidOf (IsSaid (codes "edges") (line_in line.now)))) }
-    ensures none { IfOk result (λ found. IfNone found (NoneSaid (codes "edges") (line_in line.now))) }
+fn edges(alloc: Global, line: &AskedLine<'_, '_>) -> Result<Option<Command>, AllocError>
+    ensures some { IfOk result (λ found. IfSome found (SaidOf (IsSaid (codes "edges") (asked_in line.now)))) }
+    ensures none { IfOk result (λ found. IfNone found (NoneSaid (codes "edges") (asked_in line.now))) }
 {
-    let Some(program) = one(line.operands) else {
+    let Some(program) = one(line.line.operands) else {
         return Ok(None);
     };
-    if !has_no_flags(line) || has_values(line.max) {
+    if !is_plain(line) {
         return Ok(None);
     }
     Ok(Some(Command::Edges {
@@ -171,12 +181,12 @@ fn edges(alloc: Global, line: &Line<'_, '_>) -> Result<Option<Command>, AllocErr
 }
 
 /// The command of the name `message` that the line says.
-fn message(alloc: Global, line: &Line<'_, '_>) -> Result<Option<Command>, AllocError>
+fn message(alloc: Global, line: &AskedLine<'_, '_>) -> Result<Option<Command>, AllocError>
     ensures some { IfOk result
-        (λ found. IfSome found (SaidOf (IsSaid (codes "message") (line_in line.now)))) }
-    ensures none { IfOk result (λ found. IfNone found (NoneSaid (codes "message") (line_in line.now))) }
+        (λ found. IfSome found (SaidOf (IsSaid (codes "message") (asked_in line.now)))) }
+    ensures none { IfOk result (λ found. IfNone found (NoneSaid (codes "message") (asked_in line.now))) }
 {
-    let Some((program, initial, edge, message)) = four(line.operands) else {
+    let Some((program, initial, edge, message)) = four(line.line.operands) else {
         return Ok(None);
     };
     let Some(edge) = number(edge) else {
@@ -192,12 +202,12 @@ fn message(alloc: Global, line: &Line<'_, '_>) -> Result<Option<Command>, AllocE
 }
 
 /// The command of the name `structure` that the line says.
-fn structure(alloc: Global, line: &Line<'_, '_>) -> Result<Option<Command>, AllocError>
+fn structure(alloc: Global, line: &AskedLine<'_, '_>) -> Result<Option<Command>, AllocError>
     ensures some { IfOk result
-        (λ found. IfSome found (SaidOf (IsSaid (codes "structure") (line_in line.now)))) }
-    ensures none { IfOk result (λ found. IfNone found (NoneSaid (codes "structure") (line_in line.now))) }
+        (λ found. IfSome found (SaidOf (IsSaid (codes "structure") (asked_in line.now)))) }
+    ensures none { IfOk result (λ found. IfNone found (NoneSaid (codes "structure") (asked_in line.now))) }
 {
-    let Some((program, initial, node, index)) = four(line.operands) else {
+    let Some((program, initial, node, index)) = four(line.line.operands) else {
         return Ok(None);
     };
     let Some(index) = number(index) else {
@@ -214,13 +224,16 @@ fn structure(alloc: Global, line: &Line<'_, '_>) -> Result<Option<Command>, Allo
 }
 
 /// The command of the name `losses` that the line says.
-fn losses(alloc: Global, line: &Line<'_, '_>) -> Result<Option<Command>, AllocError>
-    ensures some { IfOk result (λ found. IfSome found (SaidOf (IsSaid (codes "losses") (line_in line.now)))) }
-    ensures none { IfOk result (λ found. IfNone found (NoneSaid (codes "losses") (line_in line.now))) }
+fn losses(alloc: Global, line: &AskedLine<'_, '_>) -> Result<Option<Command>, AllocError>
+    ensures some { IfOk result (λ found. IfSome found (SaidOf (IsSaid (codes "losses") (asked_in line.now)))) }
+    ensures none { IfOk result (λ found. IfNone found (NoneSaid (codes "losses") (asked_in line.now))) }
 {
-    let Some((program, initial)) = two(line.operands) else {
+    let Some((program, initial)) = two(line.line.operands) else {
         return Ok(None);
     };
+    if !has_no_style(line) {
+        return Ok(None);
+    }
     let Some(of) = asked(alloc, line, program, initial)? else {
         return Ok(None);
     };
@@ -228,15 +241,15 @@ fn losses(alloc: Global, line: &Line<'_, '_>) -> Result<Option<Command>, AllocEr
 }
 
 /// The command of the name `compiled` that the line says.
-fn compiled(alloc: Global, line: &Line<'_, '_>) -> Result<Option<Command>, AllocError>
+fn compiled(alloc: Global, line: &AskedLine<'_, '_>) -> Result<Option<Command>, AllocError>
     ensures some { IfOk result
-        (λ found. IfSome found (SaidOf (IsSaid (codes "compiled") (line_in line.now)))) }
-    ensures none { IfOk result (λ found. IfNone found (NoneSaid (codes "compiled") (line_in line.now))) }
+        (λ found. IfSome found (SaidOf (IsSaid (codes "compiled") (asked_in line.now)))) }
+    ensures none { IfOk result (λ found. IfNone found (NoneSaid (codes "compiled") (asked_in line.now))) }
 {
-    let Some(source) = one(line.operands) else {
+    let Some(source) = one(line.line.operands) else {
         return Ok(None);
     };
-    if !has_no_flags(line) || has_values(line.max) {
+    if !is_plain(line) {
         return Ok(None);
     }
     Ok(Some(Command::Compiled {
@@ -245,17 +258,17 @@ fn compiled(alloc: Global, line: &Line<'_, '_>) -> Result<Option<Command>, Alloc
 }
 
 /// The command of the name `step` that the line says.
-fn step(alloc: Global, line: &Line<'_, '_>) -> Result<Option<Command>, AllocError>
-    ensures some { IfOk result (λ found. IfSome found (SaidOf (IsSaid (codes "step") (line_in line.now)))) }
-    ensures none { IfOk result (λ found. IfNone found (NoneSaid (codes "step") (line_in line.now))) }
+fn step(alloc: Global, line: &AskedLine<'_, '_>) -> Result<Option<Command>, AllocError>
+    ensures some { IfOk result (λ found. IfSome found (SaidOf (IsSaid (codes "step") (asked_in line.now)))) }
+    ensures none { IfOk result (λ found. IfNone found (NoneSaid (codes "step") (asked_in line.now))) }
 {
-    let Some((program, structures, edge)) = three(line.operands) else {
+    let Some((program, structures, edge)) = three(line.line.operands) else {
         return Ok(None);
     };
     let Some(edge) = number(edge) else {
         return Ok(None);
     };
-    if has_values(line.max) {
+    if has_values(line.line.max) || !has_no_style(line) {
         return Ok(None);
     }
     let Some(of) = asked(alloc, line, program, structures)? else {
@@ -265,17 +278,17 @@ fn step(alloc: Global, line: &Line<'_, '_>) -> Result<Option<Command>, AllocErro
 }
 
 /// The command of the name `plan` that the line says.
-fn plan(alloc: Global, line: &Line<'_, '_>) -> Result<Option<Command>, AllocError>
-    ensures some { IfOk result (λ found. IfSome found (SaidOf (IsSaid (codes "plan") (line_in line.now)))) }
-    ensures none { IfOk result (λ found. IfNone found (NoneSaid (codes "plan") (line_in line.now))) }
+fn plan(alloc: Global, line: &AskedLine<'_, '_>) -> Result<Option<Command>, AllocError>
+    ensures some { IfOk result (λ found. IfSome found (SaidOf (IsSaid (codes "plan") (asked_in line.now)))) }
+    ensures none { IfOk result (λ found. IfNone found (NoneSaid (codes "plan") (asked_in line.now))) }
 {
-    let Some(program) = one(line.operands) else {
+    let Some(program) = one(line.line.operands) else {
         return Ok(None);
     };
-    let Some((mode, delta)) = updating(line.recompute, line.delta) else {
+    let Some((mode, delta)) = updating(line.line.recompute, line.line.delta) else {
         return Ok(None);
     };
-    if line.maps != 0 || has_values(line.max) {
+    if line.line.maps != 0 || has_values(line.line.max) || !has_no_style(line) {
         return Ok(None);
     }
     Ok(Some(Command::Plan {
@@ -286,13 +299,16 @@ fn plan(alloc: Global, line: &Line<'_, '_>) -> Result<Option<Command>, AllocErro
 }
 
 /// The command of the name `counts` that the line says.
-fn counts(alloc: Global, line: &Line<'_, '_>) -> Result<Option<Command>, AllocError>
-    ensures some { IfOk result (λ found. IfSome found (SaidOf (IsSaid (codes "counts") (line_in line.now)))) }
-    ensures none { IfOk result (λ found. IfNone found (NoneSaid (codes "counts") (line_in line.now))) }
+fn counts(alloc: Global, line: &AskedLine<'_, '_>) -> Result<Option<Command>, AllocError>
+    ensures some { IfOk result (λ found. IfSome found (SaidOf (IsSaid (codes "counts") (asked_in line.now)))) }
+    ensures none { IfOk result (λ found. IfNone found (NoneSaid (codes "counts") (asked_in line.now))) }
 {
-    let Some((program, initial)) = two(line.operands) else {
+    let Some((program, initial)) = two(line.line.operands) else {
         return Ok(None);
     };
+    if !has_no_style(line) {
+        return Ok(None);
+    }
     match asked(alloc, line, program, initial)? {
         Some(of) => Ok(Some(Command::Counts { of })),
         None => Ok(None),
@@ -300,15 +316,15 @@ fn counts(alloc: Global, line: &Line<'_, '_>) -> Result<Option<Command>, AllocEr
 }
 
 /// The command of the name `complete` that the line says.
-fn complete(alloc: Global, line: &Line<'_, '_>) -> Result<Option<Command>, AllocError>
+fn complete(alloc: Global, line: &AskedLine<'_, '_>) -> Result<Option<Command>, AllocError>
     ensures some { IfOk result
-        (λ found. IfSome found (SaidOf (IsSaid (codes "complete") (line_in line.now)))) }
-    ensures none { IfOk result (λ found. IfNone found (NoneSaid (codes "complete") (line_in line.now))) }
+        (λ found. IfSome found (SaidOf (IsSaid (codes "complete") (asked_in line.now)))) }
+    ensures none { IfOk result (λ found. IfNone found (NoneSaid (codes "complete") (asked_in line.now))) }
 {
-    let Some((program, structures)) = two(line.operands) else {
+    let Some((program, structures)) = two(line.line.operands) else {
         return Ok(None);
     };
-    if !has_no_flags(line) || has_values(line.max) {
+    if !is_plain(line) {
         return Ok(None);
     }
     Ok(Some(Command::Complete {
@@ -318,9 +334,9 @@ fn complete(alloc: Global, line: &Line<'_, '_>) -> Result<Option<Command>, Alloc
 }
 
 /// The command of that name that the line says.
-fn said(alloc: Global, name: &str, line: &Line<'_, '_>) -> Result<Option<Command>, AllocError>
-    ensures some { IfOk result (λ found. IfSome found (SaidOf (IsSaid name.now (line_in line.now)))) }
-    ensures none { IfOk result (λ found. IfNone found (NoneSaid name.now (line_in line.now))) }
+fn said(alloc: Global, name: &str, line: &AskedLine<'_, '_>) -> Result<Option<Command>, AllocError>
+    ensures some { IfOk result (λ found. IfSome found (SaidOf (IsSaid name.now (asked_in line.now)))) }
+    ensures none { IfOk result (λ found. IfNone found (NoneSaid name.now (asked_in line.now))) }
 {
     match name {
         "show" => show(alloc, line),
@@ -348,8 +364,8 @@ pub fn read_words(alloc: Global, words: &[String]) -> Result<Option<Command>, Al
     let Some((name, behind)) = words.split_first() else {
         return Ok(None);
     };
-    let Some(matches) = read_line(command_line(alloc)?, behind)? else {
+    let Some(matches) = read_line(asked_command(alloc)?, behind)? else {
         return Ok(None);
     };
-    said(alloc, name.as_str(), &told_line(&matches))
+    said(alloc, name.as_str(), &told_asked(&matches))
 }
