@@ -10,4 +10,5 @@ mod Endings
 mod Questions
 mod Silence
 mod Steps
+mod Stops
 mod Trees

@@ -1,6 +1,6 @@
 -- What a command answers, and what it gives no answer for.
-use Rattle.std.specs.Prelude.{ℕ, ◌≡◌, ◌⊎◌, ◌<◌, ◌≤◌, false, List, ◌++◌, Option, Some, Ok, length, slice_get}
-use Rattle.std.specs.Prelude.{codes}
+use Rattle.std.specs.Prelude.{ℕ, ◌≡◌, ◌⊎◌, ◌<◌, ◌≤◌, Bool, true, false, List, ◌++◌, Option, Some, Ok, length}
+use Rattle.std.specs.Prelude.{codes, slice_get}
 use Rattle.std.specs.Prelude.{Any, Contains}
 use Rattle.std.specs.List.{AllZip}
 use Rattle.tv_compiled.specs.Compiled.{IsCause, written}
@@ -8,6 +8,7 @@ use Rattle.tv_compiled.specs.declared.error.CompiledError.TheVariants as compile
 use Rattle.tv_compiled_laws.specs.Laws.{MeansInFiles}
 use Rattle.tv_complete_text.specs.Text.{IsCauseOfNone, IsCompletedText, IsCompletion}
 use Rattle.tv_complete_text.specs.declared.error.CompletionError.TheVariants as completion
+use Rattle.tv_causes.specs.Legs.{IsCausedText}
 use Rattle.tv_counts.specs.Counts.{IsCountsText}
 use Rattle.tv_plan.specs.Texts.{IsPlanText}
 use Rattle.tv_stages_laws.specs.Stages.{IsSlowStep}
@@ -22,6 +23,7 @@ use Rattle.tv_lex.specs.Gather.{longest_gathered}
 use Rattle.tv_listing.specs.declared.analysis.Analysis.{Analysis}
 use Rattle.tv_losses_text.specs.Reports.{IsLossReport}
 use Rattle.tv_model.specs.Program.{MessageForm, ProgramForm, program_of}
+use Rattle.tv_model.specs.declared.program.Mode.{Mode}
 use Rattle.tv_model.specs.declared.program.Program.{Program}
 use Rattle.tv_outside.specs.Told.{Held}
 use Rattle.tv_trail.specs.Reasons.{HasNone, IsLedToBy, IsNeverRaised, IsRaisedBy, StaysWithin}
@@ -56,14 +58,21 @@ use Rattle.tv_explain_words.specs.Words.{TellsCounts, Completes}
 abbrev pub trail_lines : Inputs → Trail → List ℕ
 trail_lines inputs trail = trail_text inputs.drawn.program.vocab (heads_in inputs) trail
 
+-- the text is the trail's, with what became unknown at each of its steps where that is asked for
+abbrev pub TellsTrail : (unknown : Bool) → Mode → Inputs → Trail → (text : List ℕ) → Type 0
+TellsTrail false mode inputs trail text = text ≡ trail_lines inputs trail
+TellsTrail true mode inputs trail text =
+    IsCausedText inputs.drawn.program mode (heads_in inputs) trail text
+
 -- The text is that of a shortest trail to the greatest value of the message, of the value, and of a structure
 -- at hand that raises it; or that there is none, where the analysis ends and no reached structure raises the
 -- message.
 abbrev pub TellsOfMessage : AnalyzedForm → Inputs → (edge number : ℕ) → MessageForm → (text : List ℕ) → Type 0
 TellsOfMessage of inputs edge number message text =
-    ((trail : Trail) × (value : K3) × (at_hand : StructureForm)
+    ((trail : Trail) × (value : K3) × (at_hand : StructureForm) × (lines : List ℕ)
     × IsRaisedBy (drawn_form inputs) of.mode inputs.initial edge number trail value at_hand
-    × (text ≡ trail_lines inputs trail ++ (raised_line (heads_in inputs) edge number value message.text
+    × TellsTrail of.style.unknown of.mode inputs trail lines
+    × (text ≡ lines ++ (raised_line (heads_in inputs) edge number value message.text
     ++ at_hand_line inputs.drawn.program.vocab at_hand)))
     ⊎ (IsNeverRaised (drawn_form inputs) of.mode inputs.initial edge number
     × StaysWithin (drawn_form inputs) of.mode inputs.initial of.max × (text ≡ codes "no message\n"))
@@ -79,7 +88,7 @@ abbrev pub IsStructureText : AnalyzedForm → Inputs → (node : List ℕ) → (
 IsStructureText of inputs node index text = (place : ℕ)
     × (slice_get (drawn_form inputs).nodes place ≡ Some node)
     × ((trail : Trail) × IsLedToBy (drawn_form inputs) of.mode inputs.initial of.max place index trail
-    × (text ≡ trail_lines inputs trail))
+    × TellsTrail of.style.unknown of.mode inputs trail text)
 
 -- ---- losses
 
@@ -204,6 +213,15 @@ abbrev pub MeetsItsBudget : CommandForm → AnalyzedForm → Inputs
 MeetsItsBudget (TakesStep asked edge) of inputs Budget = Any (Budget (drawn_form inputs) edge) inputs.initial
 MeetsItsBudget command of inputs Budget =
     Meets (drawn_form inputs) (Budget (drawn_form inputs)) (Reached of inputs)
+
+-- a step of a reached structure meets the budget, or memory ran out
+abbrev pub IsStepsFault : AnalyzedForm → Inputs → Fault → Type 0
+IsStepsFault of inputs TooManySplits =
+    Meets (drawn_form inputs) (MeetsSplits (drawn_form inputs)) (Reached of inputs)
+IsStepsFault of inputs TooManyIndividuals =
+    Meets (drawn_form inputs) (MeetsIndividuals (drawn_form inputs)) (Reached of inputs)
+IsStepsFault of inputs Memory = Unit {0}
+IsStepsFault of inputs other = ⊥
 
 -- why the command gives no text where its files mean these: more structures are reached than may be listed,
 -- a step that it takes meets a budget, what is named isn't there, or memory ran out

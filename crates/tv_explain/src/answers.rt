@@ -8,20 +8,22 @@ ghost use Rattle.tv_model.specs.Program.{message_of, program_of};
 ghost use Rattle.tv_trail.specs.Over.{IsTrailOver};
 ghost use Rattle.tv_explain.specs.Answers.{IsMessageText, IsStepText, IsStopped, IsStructureText};
 ghost use Rattle.tv_explain.specs.Answers.{NamesNothing};
-ghost use Rattle.tv_explain.specs.Answers.{TellsOfLosses, trail_lines};
-ghost use Rattle.tv_explain.specs.Meaning.{drawn_form, heads_in};
+ghost use Rattle.tv_explain.specs.Answers.{IsStepsFault, TellsOfLosses, TellsTrail};
+ghost use Rattle.tv_explain.specs.Meaning.{drawn_form};
 ghost use Rattle.tv_explain.specs.Questions.{IsTold, command_of};
 ghost use Rattle.tv_explain.specs.Work.{AreReady, GoesOnWithSteps, IsStepsStop};
 ghost use Rattle.tv_explain_text.specs.Texts.{messages_at};
-ghost use Rattle.tv_explain_text.specs.Trails.{at_hand_line, raised_line};
 ghost use Rattle.tv_explain_words.specs.Words.{AnalyzedForm, TellsLosses, TellsMessage, TellsStructure};
 ghost use Rattle.tv_explain_words.specs.Words.{TakesStep, TellsCounts, analyzed_of};
 ghost use Rattle.tv_structure_form.specs.StructureForm.{IsOver};
+ghost use Rattle.tv_trail_laws.specs.Trails.{IsTrailTo};
+ghost use Rattle.tv_work.specs.Reach.{Point};
 
 use crate::fault::{Answer, Fault, Sought, fault_of_work, plain};
 use crate::inputs::Inputs;
 use crate::question::Question;
 use std::alloc::{AllocError, Global};
+use tv_causes::caused_text;
 use tv_counts::counts_text;
 use tv_explain_text::{Told, append_alarm, messages_at, trail_text};
 use tv_explain_words::Analyzed;
@@ -30,7 +32,8 @@ use tv_model::{Bytes, Message};
 use tv_stages::Stager;
 use tv_stages_text::{StageWriter, slow_steps_are_over};
 use tv_struct::Structure;
-use tv_trail::{Raised, trail_to_listed, trail_to_message};
+use tv_trail::{trail_to_listed, trail_to_message};
+use tv_trail_laws::Trail;
 
 /// The text that no reached structure raises a message.
 fn no_message(alloc: Global) -> Result<Vec<u8>, AllocError>
@@ -57,34 +60,27 @@ fn message_at(inputs: &Inputs, edge: u32, number: u32) -> Result<&Message, Sough
     }
 }
 
-/// The text of a message that may be true at the end of a trail.
-fn raised_answer(
+/// A trail as text, with what became unknown at each of its steps where that is asked for.
+fn trail_answer(
     alloc: Global,
     inputs: &Inputs,
-    edge: u32,
-    number: u32,
-    message: &Message,
-    raised: &Raised,
-) -> Result<Vec<u8>, AllocError>
+    of: &Analyzed,
+    trail: &Trail,
+) -> Result<Vec<u8>, Fault>
     requires ready { AreReady inputs.now }
-    requires over { IsTrailOver inputs.now.drawn.program.vocab raised.now.trail }
-    requires at_hand { IsOver inputs.now.drawn.program.vocab raised.now.at_hand }
-    ensures { IfOk result (λ text. text.items ≡ trail_lines inputs.now raised.now.trail
-        ++ (raised_line (heads_in inputs.now) edge number raised.now.value message.now.text
-        ++ at_hand_line inputs.now.drawn.program.vocab raised.now.at_hand)) }
+    requires over { IsTrailOver inputs.now.drawn.program.vocab trail.now }
+    requires trail { (last : Point)
+        × IsTrailTo (drawn_form inputs.now) of.now.mode inputs.now.initial trail.now last }
+    ensures found { IfOk result
+        (λ text. TellsTrail of.now.style.unknown of.now.mode inputs.now trail.now text.items) }
+    ensures cause { IfErr result (IsStepsFault (analyzed_of of.now) inputs.now) }
 {
-    let told = Told {
-        edge,
-        number,
-        value: raised.value,
-        text: message.text.as_slice(),
-        at_hand: &raised.at_hand,
-    };
     let program = &inputs.drawn.program;
     let heads = &inputs.drawn.heads;
-    let mut out = trail_text(alloc, program, heads, &raised.trail)?;
-    append_alarm(alloc, &mut out, program, heads, &told)?;
-    Ok(out)
+    if of.style.unknown {
+        return Ok(caused_text(alloc, program, of.mode, heads, trail)?);
+    }
+    Ok(trail_text(alloc, program, heads, trail)?)
 }
 
 /// What is told of the message of this number among those of the edge's action.
@@ -117,7 +113,18 @@ fn message_text(
     ) {
         Err(error) => Err(fault_of_work(error, of.max)),
         Ok(None) => Ok(no_message(alloc)?),
-        Ok(Some(raised)) => Ok(raised_answer(alloc, inputs, edge, number, message, &raised)?),
+        Ok(Some(raised)) => {
+            let told = Told {
+                edge,
+                number,
+                value: raised.value,
+                text: message.text.as_slice(),
+                at_hand: &raised.at_hand,
+            };
+            let mut out = trail_answer(alloc, inputs, of, &raised.trail)?;
+            append_alarm(alloc, &mut out, program, &inputs.drawn.heads, &told)?;
+            Ok(out)
+        }
     }
 }
 
@@ -171,7 +178,7 @@ fn structure_text(
     ) {
         Err(error) => Err(fault_of_work(error, of.max)),
         Ok(None) => Err(Fault::NotThere(Sought::Structure)),
-        Ok(Some(trail)) => Ok(trail_text(alloc, program, &inputs.drawn.heads, &trail)?),
+        Ok(Some(trail)) => trail_answer(alloc, inputs, of, &trail),
     }
 }
 
