@@ -1,2 +1,2 @@
 mod LegLaws
-mod Turns
+mod Preds

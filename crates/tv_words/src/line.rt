@@ -78,7 +78,7 @@ pub fn read_line<'a>(
 }
 
 /// The texts that were found for an argument, in order, if there are any.
-fn texts<'m, 'a>(matches: &'m ArgMatches<'a>, id: &str) -> Option<&'m [&'a str]>
+pub fn texts<'m, 'a>(matches: &'m ArgMatches<'a>, id: &str) -> Option<&'m [&'a str]>
     ensures { told_texts result ≡ texts_in matches.now id.now }
 {
     matches.get_raw(id)

@@ -1,4 +1,0 @@
-use Rattle.std.proofs.Common.{arith}
-use Rattle.tv_causes.specs.Ways.{pick_way}
-use Rattle.tv_causes.proofs.Turns.{first_later, first_now}
-use Rattle.tv_causes.proofs.ways.pick_way.Goals as goal
