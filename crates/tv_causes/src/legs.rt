@@ -12,7 +12,7 @@ ghost use Rattle.tv_structure_form.specs.StructureForm.{StructureForm};
 ghost use Rattle.tv_trail.specs.Over.{IsTrailOver};
 ghost use Rattle.tv_trail_laws.specs.Trails.{IsTrailTo};
 ghost use Rattle.tv_trail_laws.specs.declared.trail.Link.{Link};
-ghost use Rattle.tv_work.specs.Analyzed.{IsWorkCause, work_error};
+ghost use Rattle.tv_work.specs.Analyzed.{IsWorkCause};
 ghost use Rattle.tv_work.specs.Reach.{IsReached, Point};
 
 use crate::rises::append_lost;
@@ -23,6 +23,7 @@ use tv_stages::Stager;
 use tv_stages_text::slow_steps_are_over;
 use tv_struct::{StageError, Structure};
 use tv_trail_laws::{Link, Trail};
+use tv_work::WorkError;
 
 /// What trails are written by: the program, and the heads of its edges.
 #[derive(Clone, Copy)]
@@ -86,7 +87,9 @@ fn append_legs(
 {
     let links = trail.links.as_slice();
     for number in 0..links.len() {
-        append_leg(x, out, stager, before_at(trail, number), &links[number])?;
+        let before = before_at(trail, number);
+        let link = &links[number];
+        append_leg(x, out, stager, before, link)?;
     }
     Ok(())
 }
@@ -97,22 +100,23 @@ fn append_legs(
 /// first way by which the step comes to the link's structure.
 ///
 /// # Errors
-/// `Splits` and `Individuals` only where the step of a reached structure meets that budget. Or memory ran out.
+/// `Splits` and `Individuals` only where the step of a reached structure meets that budget, and never
+/// `Structures`. Or memory ran out.
 pub fn caused_text(
     alloc: Global,
     program: &Program,
     mode: Mode,
     heads: &[Bytes],
     trail: &Trail,
-) -> Result<Vec<u8>, StageError>
+) -> Result<Vec<u8>, WorkError>
     requires valid { IsValid (program_of program.now) }
     requires over { IsTrailOver program.now.vocab trail.now }
     requires trail { IsSomeTrail (program_of program.now) mode trail.now }
     ensures found { IfOk result (λ text. IsCausedText program.now mode heads.now trail.now text.items) }
     ensures cause { (initial : List StructureForm) (last : Point) (max : ℕ)
         → IsTrailTo (program_of program.now) mode initial trail.now last
-        → IfErr result (λ fault. IsWorkCause (program_of program.now) max
-        (IsReached (program_of program.now) mode initial) (work_error fault)) }
+        → IfErr result (IsWorkCause (program_of program.now) max
+        (IsReached (program_of program.now) mode initial)) }
 {
     let mut stager = Stager::new(alloc, program, mode)?;
     let mut out = Vec::new(alloc);

@@ -10,5 +10,4 @@ mod Endings
 mod Questions
 mod Silence
 mod Steps
-mod Stops
 mod Trees

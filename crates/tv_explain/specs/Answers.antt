@@ -214,15 +214,6 @@ MeetsItsBudget (TakesStep asked edge) of inputs Budget = Any (Budget (drawn_form
 MeetsItsBudget command of inputs Budget =
     Meets (drawn_form inputs) (Budget (drawn_form inputs)) (Reached of inputs)
 
--- a step of a reached structure meets the budget, or memory ran out
-abbrev pub IsStepsFault : AnalyzedForm → Inputs → Fault → Type 0
-IsStepsFault of inputs TooManySplits =
-    Meets (drawn_form inputs) (MeetsSplits (drawn_form inputs)) (Reached of inputs)
-IsStepsFault of inputs TooManyIndividuals =
-    Meets (drawn_form inputs) (MeetsIndividuals (drawn_form inputs)) (Reached of inputs)
-IsStepsFault of inputs Memory = Unit {0}
-IsStepsFault of inputs other = ⊥
-
 -- why the command gives no text where its files mean these: more structures are reached than may be listed,
 -- a step that it takes meets a budget, what is named isn't there, or memory ran out
 abbrev pub IsStopped : CommandForm → AnalyzedForm → Inputs → Fault → Type 0

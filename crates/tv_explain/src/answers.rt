@@ -2,21 +2,23 @@
 
 ghost use Rattle.std.specs.Prelude.{◌≡◌, ◌<◌, ◌^◌, ℕ, Contains, IfErr, IfNone, IfOk, IfSome, Some, codes};
 ghost use Rattle.std.specs.Prelude.{◌++◌, ◌↔◌, IsTrue, length, slice_get};
-ghost use Rattle.std.specs.Prelude.{All, OnOk};
+ghost use Rattle.std.specs.Prelude.{All, List, OnOk};
 ghost use Rattle.tv_counts.specs.Counts.{IsCountsText};
 ghost use Rattle.tv_model.specs.Program.{message_of, program_of};
 ghost use Rattle.tv_trail.specs.Over.{IsTrailOver};
 ghost use Rattle.tv_explain.specs.Answers.{IsMessageText, IsStepText, IsStopped, IsStructureText};
 ghost use Rattle.tv_explain.specs.Answers.{NamesNothing};
-ghost use Rattle.tv_explain.specs.Answers.{IsStepsFault, TellsOfLosses, TellsTrail};
-ghost use Rattle.tv_explain.specs.Meaning.{drawn_form};
+ghost use Rattle.tv_explain.specs.Answers.{Reached, TellsOfLosses, TellsTrail};
+ghost use Rattle.tv_explain.specs.Meaning.{drawn_form, heads_in};
 ghost use Rattle.tv_explain.specs.Questions.{IsTold, command_of};
 ghost use Rattle.tv_explain.specs.Work.{AreReady, GoesOnWithSteps, IsStepsStop};
 ghost use Rattle.tv_explain_text.specs.Texts.{messages_at};
+ghost use Rattle.tv_explain_text.specs.Trails.{at_hand_line, raised_line};
 ghost use Rattle.tv_explain_words.specs.Words.{AnalyzedForm, TellsLosses, TellsMessage, TellsStructure};
 ghost use Rattle.tv_explain_words.specs.Words.{TakesStep, TellsCounts, analyzed_of};
 ghost use Rattle.tv_structure_form.specs.StructureForm.{IsOver};
 ghost use Rattle.tv_trail_laws.specs.Trails.{IsTrailTo};
+ghost use Rattle.tv_work.specs.Analyzed.{IsWorkCause};
 ghost use Rattle.tv_work.specs.Reach.{Point};
 
 use crate::fault::{Answer, Fault, Sought, fault_of_work, plain};
@@ -34,6 +36,7 @@ use tv_stages_text::{StageWriter, slow_steps_are_over};
 use tv_struct::Structure;
 use tv_trail::{trail_to_listed, trail_to_message};
 use tv_trail_laws::Trail;
+use tv_work::WorkError;
 
 /// The text that no reached structure raises a message.
 fn no_message(alloc: Global) -> Result<Vec<u8>, AllocError>
@@ -66,21 +69,48 @@ fn trail_answer(
     inputs: &Inputs,
     of: &Analyzed,
     trail: &Trail,
-) -> Result<Vec<u8>, Fault>
+) -> Result<Vec<u8>, WorkError>
     requires ready { AreReady inputs.now }
     requires over { IsTrailOver inputs.now.drawn.program.vocab trail.now }
     requires trail { (last : Point)
         × IsTrailTo (drawn_form inputs.now) of.now.mode inputs.now.initial trail.now last }
     ensures found { IfOk result
         (λ text. TellsTrail of.now.style.unknown of.now.mode inputs.now trail.now text.items) }
-    ensures cause { IfErr result (IsStepsFault (analyzed_of of.now) inputs.now) }
+    ensures cause { IfErr result (IsWorkCause (drawn_form inputs.now) of.now.max
+        (Reached (analyzed_of of.now) inputs.now)) }
 {
     let program = &inputs.drawn.program;
     let heads = &inputs.drawn.heads;
-    if of.style.unknown {
-        return Ok(caused_text(alloc, program, of.mode, heads, trail)?);
+    match of.style.unknown {
+        true => caused_text(alloc, program, of.mode, heads, trail),
+        false => Ok(trail_text(alloc, program, heads, trail)?),
     }
-    Ok(trail_text(alloc, program, heads, trail)?)
+}
+
+/// The text of a message that may be true at the end of a trail.
+fn raised_answer(
+    alloc: Global,
+    inputs: &Inputs,
+    of: &Analyzed,
+    told: &Told<'_>,
+    trail: &Trail,
+) -> Result<Vec<u8>, WorkError>
+    requires ready { AreReady inputs.now }
+    requires over { IsTrailOver inputs.now.drawn.program.vocab trail.now }
+    requires at_hand { IsOver inputs.now.drawn.program.vocab told.now.at_hand.now }
+    requires trail { (last : Point)
+        × IsTrailTo (drawn_form inputs.now) of.now.mode inputs.now.initial trail.now last }
+    ensures found { IfOk result (λ text. (lines : List ℕ)
+        × TellsTrail of.now.style.unknown of.now.mode inputs.now trail.now lines
+        × (text.items ≡ lines ++ (raised_line (heads_in inputs.now) told.now.edge told.now.number
+        told.now.value told.now.text.now
+        ++ at_hand_line inputs.now.drawn.program.vocab told.now.at_hand.now))) }
+    ensures cause { IfErr result (IsWorkCause (drawn_form inputs.now) of.now.max
+        (Reached (analyzed_of of.now) inputs.now)) }
+{
+    let mut out = trail_answer(alloc, inputs, of, trail)?;
+    append_alarm(alloc, &mut out, &inputs.drawn.program, &inputs.drawn.heads, told)?;
+    Ok(out)
 }
 
 /// What is told of the message of this number among those of the edge's action.
@@ -121,9 +151,10 @@ fn message_text(
                 text: message.text.as_slice(),
                 at_hand: &raised.at_hand,
             };
-            let mut out = trail_answer(alloc, inputs, of, &raised.trail)?;
-            append_alarm(alloc, &mut out, program, &inputs.drawn.heads, &told)?;
-            Ok(out)
+            match raised_answer(alloc, inputs, of, &told, &raised.trail) {
+                Err(error) => Err(fault_of_work(error, of.max)),
+                Ok(text) => Ok(text),
+            }
         }
     }
 }
@@ -178,7 +209,10 @@ fn structure_text(
     ) {
         Err(error) => Err(fault_of_work(error, of.max)),
         Ok(None) => Err(Fault::NotThere(Sought::Structure)),
-        Ok(Some(trail)) => trail_answer(alloc, inputs, of, &trail),
+        Ok(Some(trail)) => match trail_answer(alloc, inputs, of, &trail) {
+            Err(error) => Err(fault_of_work(error, of.max)),
+            Ok(text) => Ok(text),
+        },
     }
 }
 
