@@ -1,6 +1,7 @@
 -- The steps of a trail, one after the other.
 use Rattle.std.proofs.Common.{ℕ, zero, suc, ◌≡◌, ◌<◌, ◌∙◌, ◌+◌, List, [], ◌∷◌, ◌++◌, Some, None, Option}
 use Rattle.std.proofs.Common.{add-one, ap, append-nil, append_assoc, arith, length, refl, subst, sym, take}
+use Rattle.std.proofs.Math.Seq.{take-length}
 use Rattle.std.specs.List.{AllZip}
 use Rattle.std.specs.Prelude.{All, Any, Contains, option_map, slice_get}
 use Rattle.std.proofs.lemmas.List.Elements.{All-cons, All-contains, All-head, All-nil, All-tail}
@@ -46,6 +47,11 @@ leg-next s (l ∷ ls) (suc n) b link at next = leg-next l.structure ls n b link 
 pub length-legs : (s : StructureForm) (links : List Link) → length (legs_from s links) ≡ length links
 length-legs s [] = refl
 length-legs s (l ∷ ls) = ap suc (length-legs l.structure ls)
+
+pub all-legs : (s : StructureForm) (links : List Link) (n : ℕ) → n ≡ length links
+    → take n (legs_from s links) ≡ legs_from s links
+all-legs s links n e =
+    ap (λ k. take k (legs_from s links)) (e ∙ sym (length-legs s links)) ∙ take-length (legs_from s links)
 
 -- ---- one more
 

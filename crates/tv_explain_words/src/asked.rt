@@ -10,9 +10,7 @@ ghost use Rattle.tv_explain_words.specs.declared.words.Style.{Style};
 use crate::words::Style;
 use clap::{ArgMatches, Command};
 use std::alloc::{AllocError, Global};
-use tv_words::{
-    Line, bare_line, flag, has_no_flags, has_values, operands, setting, stands, told_line,
-};
+use tv_words::{Line, bare_line, flag, has_no_flags, has_values, operands, setting, told_line};
 
 /// The line behind a command's name: any operands, and the options of all commands.
 pub(crate) fn asked_command<'a>(alloc: Global) -> Result<Command<'a>, AllocError>
@@ -54,10 +52,11 @@ pub(crate) fn style_of(asked: &AskedLine<'_, '_>) -> Option<Style>
     ensures some { IfSome result (HasStyle (asked_in asked.now)) }
     ensures none { IfNone result ((style : Style) → ¬ HasStyle (asked_in asked.now) style) }
 {
-    let Some(unknown) = stands(asked.unknown) else {
-        return None;
-    };
-    Some(Style { unknown })
+    match asked.unknown {
+        0 => Some(Style { unknown: false }),
+        1 => Some(Style { unknown: true }),
+        _ => None,
+    }
 }
 
 /// Whether no option of chains stands.
