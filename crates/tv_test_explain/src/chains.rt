@@ -21,7 +21,7 @@ const ASKED_OF_BOTH: Row<'static, 'static, 'static, 'static> = Row {
 };
 
 /// `b` is false at `L0` and true at `L1`, but for the second structure.
-pub static CHAINS: [Row<'static, 'static, 'static, 'static>; 22] = [
+pub static CHAINS: [Row<'static, 'static, 'static, 'static>; 23] = [
     Row {
         words: &["message", "p", "i", "3", "0"],
         out: "initial 0
@@ -156,6 +156,22 @@ L Clear() M",
         out: "initial 0  (#0)  (x&y)
 edge 0  p:2  L Clear ( ) M  ((#0&x?))
   unknown x +1 by blur
+",
+        ..PLAIN
+    },
+    // what coerce makes known again isn't told
+    Row {
+        words: &["structure", "p", "i", "M", "0", "--unknown"],
+        files: &[
+            (
+                "p",
+                "%p b() %p c() %p d() %r d() ==> b() %% %action Blend() { { b() = c() } } %%
+L Blend() M",
+            ),
+            ("i", "%n = {} %p = { b = 1 c = 1/2 d = 1 }"),
+        ],
+        out: "initial 0  b  c?  d
+edge 0  p:2  L Blend ( ) M  b  c?  d
 ",
         ..PLAIN
     },
