@@ -66,6 +66,7 @@ export class Explanation {
     const isFirst = !this.steps.length, start = line.at, last = this.steps.at(-1);
     if (last?.message && line.skips("at hand")) return this.steps.push({ title: "at hand", structure: line.structure(), isAtHand: true });
     if (last?.message || last?.isAtHand) line.fault("no line behind a message and what raises it", start);
+    if (last?.edge && line.skips("  unknown ")) return this.risen(line, last);
     line.take(isFirst ? "initial " : "edge ");
     const number = line.number("a number"), step = { number, isInitial: isFirst };
     if (!isFirst) {
@@ -76,6 +77,12 @@ export class Explanation {
     if (!isFirst && line.sees("  message ")) step.message = this.raised(line);
     else step.structure = line.structure();
     this.steps.push(step);
+  }
+  /** A predicate that is unknown at more tuples than before the step. */
+  risen(line, step) {
+    const [, name, more, by] = line.match(/([A-Za-z_]\w*(?:\[[\w,]*\])?) \+([1-9]\d*) by (update|blur)/y, "a predicate, at how many more tuples it is unknown, and by what");
+    if (!line.isAtEnd) line.fault("the end of the line");
+    (step.risen ??= []).push({ name, more: Number(more), by });
   }
   raised(line) {
     line.take("  message ");

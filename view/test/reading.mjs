@@ -266,6 +266,12 @@ test("the chain of docs/TUTORIAL.md is read, and written back byte for byte", ()
     ["chain", 9, text, { number: 2, file: "pairs.tvp", line: 28, source: "L3", target: "L4", call: "y_is_y_n()",
       text: "pairs.tvp:28  L3 y_is_y_n ( ) L4" }, 3]];
 });
+test("what became unknown at the steps of a chain is read", () => {
+  const text = "initial 0  (#0)  (x&y)\nedge 0  p:2  L Clear ( ) M  ((#0&x?))\n  unknown x +1 by blur\n  unknown r[n,x] +12 by update\n"
+    + "edge 1  p:3  M Say ( ) N  message 0 is 1/2: \"some\"\nat hand  ((#0&x?))\n", { kind, steps } = Explanation.read(bytesOf(text));
+  return [[kind, steps.length, steps[1].risen, steps[2].message.text, steps[3].isAtHand],
+    ["chain", 4, [{ name: "x", more: 1, by: "blur" }, { name: "r[n,x]", more: 12, by: "update" }], "some", true]];
+});
 test("the edges of docs/TUTORIAL.md are read", () => {
   const { kind, edges } = Explanation.read(bytesOf(block("edge 0  examples")));
   return [[kind, edges.map(({ number, line, source, call, target, messages }) => [number, line, source, call, target, messages])],

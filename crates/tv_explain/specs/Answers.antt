@@ -1,7 +1,6 @@
 -- What a command answers, and what it gives no answer for.
-use Rattle.std.specs.Prelude.{ℕ, ◌≡◌, ◌⊎◌, ◌<◌, ◌≤◌, Bool, false, List, ◌++◌, Option, Some, Ok, length}
-use Rattle.std.specs.Prelude.{slice_get}
-use Rattle.std.specs.Prelude.{codes}
+use Rattle.std.specs.Prelude.{ℕ, ◌≡◌, ◌⊎◌, ◌<◌, ◌≤◌, Bool, true, false, List, ◌++◌, Option, Some, Ok, length}
+use Rattle.std.specs.Prelude.{codes, slice_get}
 use Rattle.std.specs.Prelude.{Any, Contains}
 use Rattle.std.specs.List.{AllZip}
 use Rattle.tv_compiled.specs.Compiled.{IsCause, written}
@@ -9,6 +8,7 @@ use Rattle.tv_compiled.specs.declared.error.CompiledError.TheVariants as compile
 use Rattle.tv_compiled_laws.specs.Laws.{MeansInFiles}
 use Rattle.tv_complete_text.specs.Text.{IsCauseOfNone, IsCompletedText, IsCompletion}
 use Rattle.tv_complete_text.specs.declared.error.CompletionError.TheVariants as completion
+use Rattle.tv_causes.specs.Legs.{IsCausedText}
 use Rattle.tv_counts.specs.Counts.{IsCountsText}
 use Rattle.tv_plan.specs.Texts.{IsPlanText}
 use Rattle.tv_stages_laws.specs.Stages.{IsSlowStep}
@@ -23,6 +23,7 @@ use Rattle.tv_listing.specs.declared.analysis.Analysis.{Analysis}
 use Rattle.tv_losses.specs.Losses.{MeetsListed, PassesRounds}
 use Rattle.tv_losses_text.specs.Reports.{IsLossReport}
 use Rattle.tv_model.specs.Program.{MessageForm, ProgramForm, program_of}
+use Rattle.tv_model.specs.declared.program.Mode.{Mode}
 use Rattle.tv_model.specs.declared.program.Program.{Program}
 use Rattle.tv_outside.specs.Told.{Held}
 use Rattle.tv_rule_lines.specs.RuleTexts.{rules_text}
@@ -60,14 +61,21 @@ use Rattle.tv_explain_words.specs.declared.words.LossOptions.{LossOptions}
 abbrev pub trail_lines : Inputs → Trail → List ℕ
 trail_lines inputs trail = trail_text inputs.drawn.program.vocab (heads_in inputs) trail
 
+-- the text is the trail's, with what became unknown at each of its steps where that is asked for
+abbrev pub TellsTrail : (unknown : Bool) → Mode → Inputs → Trail → (text : List ℕ) → Type 0
+TellsTrail false mode inputs trail text = text ≡ trail_lines inputs trail
+TellsTrail true mode inputs trail text =
+    IsCausedText inputs.drawn.program mode (heads_in inputs) trail text
+
 -- The text is that of a shortest trail to the greatest value of the message, of the value, and of a structure
 -- at hand that raises it; or that there is none, where the analysis ends and no reached structure raises the
 -- message.
 abbrev pub TellsOfMessage : AnalyzedForm → Inputs → (edge number : ℕ) → MessageForm → (text : List ℕ) → Type 0
 TellsOfMessage of inputs edge number message text =
-    ((trail : Trail) × (value : K3) × (at_hand : StructureForm)
+    ((trail : Trail) × (value : K3) × (at_hand : StructureForm) × (lines : List ℕ)
     × IsRaisedBy (drawn_form inputs) of.mode inputs.initial edge number trail value at_hand
-    × (text ≡ trail_lines inputs trail ++ (raised_line (heads_in inputs) edge number value message.text
+    × TellsTrail of.style.unknown of.mode inputs trail lines
+    × (text ≡ lines ++ (raised_line (heads_in inputs) edge number value message.text
     ++ at_hand_line inputs.drawn.program.vocab at_hand)))
     ⊎ (IsNeverRaised (drawn_form inputs) of.mode inputs.initial edge number
     × StaysWithin (drawn_form inputs) of.mode inputs.initial of.max × (text ≡ codes "no message\n"))
@@ -83,7 +91,7 @@ abbrev pub IsStructureText : AnalyzedForm → Inputs → (node : List ℕ) → (
 IsStructureText of inputs node index text = (place : ℕ)
     × (slice_get (drawn_form inputs).nodes place ≡ Some node)
     × ((trail : Trail) × IsLedToBy (drawn_form inputs) of.mode inputs.initial of.max place index trail
-    × (text ≡ trail_lines inputs trail))
+    × TellsTrail of.style.unknown of.mode inputs trail text)
 
 -- ---- losses
 
