@@ -1,6 +1,6 @@
 -- The causes of the parts of the work, as those of a command and of a call.
 use Rattle.std.proofs.Common.{◌≡◌, ◌≤◌, ℕ, Bool, List, Option, Result, Ok, Err, inl, inr, refl, sym, subst}
-use Rattle.std.specs.Prelude.{false, IfOk, IfErr, length}
+use Rattle.std.specs.Prelude.{Bool, false, IfOk, IfErr, length}
 use Rattle.std.specs.declared.alloc.Global.{Global}
 use Rattle.std.specs.declared.vec.Vec.{Vec}
 use Rattle.tv_compiled.specs.Compiled.{IsCause as IsWritingCause}
@@ -9,6 +9,7 @@ use Rattle.tv_compiled.specs.declared.error.CompiledError.TheVariants as compile
 use Rattle.tv_compiled_laws.specs.Laws.{CompiledTextsArePrograms, MeansInFiles}
 use Rattle.tv_texts.specs.declared.source.SourceText.{SourceText}
 use Rattle.tv_lex.specs.Gather.{longest_gathered}
+use Rattle.tv_losses.specs.Losses.{IsLossCause}
 use Rattle.tv_model.specs.declared.program.Program.{Program}
 use Rattle.tv_outside.specs.Told.{Held, HoldsName}
 use Rattle.tv_status.specs.declared.status.FileKind.{FileKind}
@@ -32,10 +33,13 @@ use Rattle.tv_struct.specs.declared.analysis.StageError.TheVariants as stage
 use Rattle.tv_structure_form.specs.StructureForm.{StructureForm}
 use Rattle.tv_texts.specs.Structures.{IsStructuresText}
 use Rattle.tv_texts.specs.declared.structures.StructuresText.{StructuresText}
-use Rattle.tv_explain.specs.Answers.{FilesMeanSuch, IsAnswer, IsCompiledText, IsStopped}
+use Rattle.tv_work.specs.declared.error.WorkError.{WorkError}
+use Rattle.tv_work.specs.declared.error.WorkError.TheVariants as work
+use Rattle.tv_explain.specs.Answers.{FilesMeanSuch, IsAnswer, IsCompiledText, IsStopped, Reached}
 use Rattle.tv_explain.specs.Answers.{compiled_lines}
 use Rattle.tv_explain.specs.Call.{IsAnswerTo, IsCause, IsCommandCause, IsFound, UnlessReadFault}
-use Rattle.tv_explain.specs.Faults.{fault_of_completion, fault_of_step, fault_of_text, fault_of_writing}
+use Rattle.tv_explain.specs.Faults.{fault_of_completion, fault_of_step, fault_of_text, fault_of_work}
+use Rattle.tv_explain.specs.Faults.{fault_of_writing}
 use Rattle.tv_explain.specs.Meaning.{FilesMean, IsDrawnFile, IsMissing, IsRefused, LacksInputs, drawn_form}
 use Rattle.tv_explain.specs.Meaning.{program_name}
 use Rattle.tv_explain.specs.Sources.{IsTakenText}
@@ -49,6 +53,7 @@ use Rattle.tv_explain.specs.declared.inputs.Drawn.{Drawn}
 use Rattle.tv_explain.specs.declared.inputs.Inputs.{Inputs}
 use Rattle.tv_explain_words.specs.Words.{AnalyzedForm, CommandForm, Shows, TellsLosses, TellsMessage}
 use Rattle.tv_explain_words.specs.Words.{Compiles, TellsStructure, TakesStep, TellsCounts, Completes, Spells}
+use Rattle.tv_explain_words.specs.declared.words.LossOptions.{LossOptions}
 
 -- ---- counts and steadiness
 
@@ -287,3 +292,14 @@ plain_text P (Err e) h = tt
 pub plain_cause : (P : Fault → Type 0) (r : Result (Vec ℕ Global) Fault) → IfErr r P → IfErr (plain r) P
 plain_cause P (Ok t) h = tt
 plain_cause P (Err e) h = h
+
+-- ---- losses
+
+-- why losses aren't told stops the command
+pub losses_stop : (of : AnalyzedForm) (how : LossOptions) (inputs : Inputs) (e : WorkError)
+    → IsLossCause (drawn_form inputs) of.mode inputs.initial of.max how.join e
+    → IsStopped (TellsLosses of how) of inputs (fault_of_work of.max e)
+losses_stop of how inputs work.Structures cause = (refl, cause)
+losses_stop of how inputs work.Splits cause = cause
+losses_stop of how inputs work.Individuals cause = cause
+losses_stop of how inputs work.Memory cause = tt

@@ -15,11 +15,12 @@ use Rattle.tv_lex.specs.Token.{HaveOneMeaning}
 use Rattle.tv_lex.specs.declared.token.LexError.{LexError}
 use Rattle.tv_lex.specs.declared.token.Token.{Token}
 use Rattle.tv_listing.specs.declared.analysis.Analysis.{Analysis}
-use Rattle.tv_losses.specs.Losses.{AreLosses}
+use Rattle.tv_losses.specs.Losses.{AreLosses, MeetsListed, PassesRounds}
 use Rattle.tv_losses.specs.declared.told.Losses.{Losses}
 use Rattle.tv_losses_text.specs.Reports.{AreNone}
 use Rattle.tv_model.proofs.Lists.{slice_get-contains}
 use Rattle.tv_model.specs.Program.{MessageForm, ProgramForm, program_of}
+use Rattle.tv_model.specs.declared.program.Mode.{Mode}
 use Rattle.tv_model.specs.declared.program.Program.{Program}
 use Rattle.tv_outside.specs.Told.{Held}
 use Rattle.tv_status.specs.declared.status.FileKind.{FileKind}
@@ -45,7 +46,7 @@ use Rattle.tv_explain.specs.Due.{Owes, CallsWithinLimits, CanAnswer, CanBeWritte
 use Rattle.tv_explain.specs.Due.{EndsAsOwed}
 use Rattle.tv_explain.specs.Due.{HasMessage, IsAbsent, MayStand, AtLimit, IsWithinLimits, KeepsLimits}
 use Rattle.tv_explain.specs.Due.{AreReadTogether, CanBeCompleted, CannotBeCompleted, CannotWrite, KeepsEach}
-use Rattle.tv_explain.specs.Due.{KeepsItsLimits}
+use Rattle.tv_explain.specs.Due.{KeepsItsLimits, KeepsListed}
 use Rattle.tv_explain.specs.Due.{KeepsReached, LacksEdge, LacksMessage}
 use Rattle.tv_explain.specs.Due.{LacksStructure, ListsSuch, LosesSome, LosesSuch, without_details}
 use Rattle.tv_explain.specs.Faults.{ending_with}
@@ -70,6 +71,7 @@ use Rattle.tv_explain_text.specs.Texts.{action_messages, messages_at}
 use Rattle.tv_explain_words.specs.Words.{AnalyzedForm, CommandForm, Shows, ListsEdges, TellsMessage}
 use Rattle.tv_explain_words.specs.Words.{TellsStructure, TellsLosses, Compiles, TakesStep, TellsPlan}
 use Rattle.tv_explain_words.specs.Words.{TellsCounts, Completes, Spells, SpellsNothing}
+use Rattle.tv_explain_words.specs.declared.words.LossOptions.{LossOptions}
 
 -- ---- views of endings
 
@@ -114,7 +116,7 @@ module _ (told : Option Held) where
       → AreRead told command
   such_read (TellsMessage of edge number) P h = (h.0, h.1)
   such_read (TellsStructure of node index) P h = (h.0, h.1)
-  such_read (TellsLosses of) P h = (h.0, h.1)
+  such_read (TellsLosses of how) P h = (h.0, h.1)
   such_read (TakesStep of edge) P h = (h.0, h.1)
   such_read (TellsCounts of) P h = (h.0, h.1)
   such_read other P h = absurd h
@@ -124,7 +126,7 @@ module _ (told : Option Held) where
       → FilesMeanSuch told command Q
   such_also (TellsMessage of edge number) P Q f h = (h.0, h.1, f of h.0 h.2)
   such_also (TellsStructure of node index) P Q f h = (h.0, h.1, f of h.0 h.2)
-  such_also (TellsLosses of) P Q f h = (h.0, h.1, f of h.0 h.2)
+  such_also (TellsLosses of how) P Q f h = (h.0, h.1, f of h.0 h.2)
   such_also (TakesStep of edge) P Q f h = (h.0, h.1, f of h.0 h.2)
   such_also (TellsCounts of) P Q f h = (h.0, h.1, f of h.0 h.2)
   such_also other P Q f h = absurd h
@@ -152,7 +154,7 @@ module _ (told : Option Held)
         let x = read_of told false program h.0.0 h.0.1 in (x.0, x.1)
     answer_read (TellsMessage of edge number) a h = (h.0.0, h.0.1)
     answer_read (TellsStructure of node index) a h = (h.0.0, h.0.1)
-    answer_read (TellsLosses of) a h = (h.0, h.1)
+    answer_read (TellsLosses of how) a h = (h.0, h.1)
     answer_read (Compiles source updates) a h = source_read updates source h.0.0 h.0.1
     answer_read (TakesStep of edge) a h = (h.0.0, h.0.1)
     answer_read (TellsPlan program mode delta) a h =
@@ -165,7 +167,7 @@ module _ (told : Option Held)
     done_read (ListsEdges program) h = h
     done_read (TellsMessage of edge number) h = (h.0, h.1)
     done_read (TellsStructure of node index) h = (h.0, h.1)
-    done_read (TellsLosses of) h = (h.0, h.1)
+    done_read (TellsLosses of how) h = (h.0, h.1)
     done_read (Compiles source updates) h = source_read updates source h.0 h.1
     done_read (TakesStep of edge) h = (h.0, h.1)
     done_read (TellsPlan program mode delta) h = h
@@ -173,7 +175,7 @@ module _ (told : Option Held)
     done_read (Completes program structures) h = h.0
 
     some_read : (command : CommandForm) → LosesSome told command → AreRead told command
-    some_read (TellsLosses of) h = (h.0, h.1)
+    some_read (TellsLosses of how) h = (h.0, h.1)
     some_read other h = absurd h
 
     absent_read : (command : CommandForm) (what : Sought) → IsAbsent told command what → AreRead told command
@@ -267,6 +269,22 @@ kept_reached of asked b keeps (inr (inl meets)) = (keeps meets.edge meets.at mee
 kept_reached of asked b keeps (inr (inr meets)) =
     (keeps meets.edge meets.at meets.source).individuals meets.budget
 
+-- those of what is listed, by either analysis
+kept_listed : (joined : Bool) (p : ProgramForm) (mode : Mode) (initial : List StructureForm) (max : ℕ)
+    → KeepsListed joined p mode initial max → PassesRounds p mode initial max joined
+    ⊎ (MeetsListed p mode initial (MeetsSplits p) joined ⊎ MeetsListed p mode initial (MeetsIndividuals p) joined)
+    → ⊥
+kept_listed false p mode initial max keeps (inl many) = many
+kept_listed false p mode initial max keeps (inr (inl meets)) =
+    (keeps meets.edge meets.at meets.source).splits meets.budget
+kept_listed false p mode initial max keeps (inr (inr meets)) =
+    (keeps meets.edge meets.at meets.source).individuals meets.budget
+kept_listed true p mode initial max keeps (inl (round, many)) = (keeps round).0 many
+kept_listed true p mode initial max keeps (inr (inl (round, meets))) =
+    ((keeps round).1 meets.edge meets.at meets.source).splits meets.budget
+kept_listed true p mode initial max keeps (inr (inr (round, meets))) =
+    ((keeps round).1 meets.edge meets.at meets.source).individuals meets.budget
+
 -- the budgets of steps along one edge
 kept_each : (of asked : AnalyzedForm) (edge : ℕ) (b : Inputs) → KeepsEach edge b
     → PassesLimit (TakesStep asked edge) of b → ⊥
@@ -295,9 +313,10 @@ lost_some : (is_lost : Bool) (none : Type 0) → (IsTrue is_lost ↔ (¬ none)) 
 lost_some is_lost none any is = any.1 is
 
 module _ (of : AnalyzedForm) (a b : Inputs) (same : SameInputs a b) where
-  loses : (AreSuch : Losses → Type 0) → LosesSuch of a AreSuch → LosesSuch of b AreSuch
-  loses AreSuch h = moved
-      (λ p i. (losses : Losses) → AreLosses p of.mode i of.max losses → AreSuch losses) a b same h
+  loses : (how : LossOptions) (AreSuch : Losses → Type 0) → LosesSuch of how a AreSuch
+      → LosesSuch of how b AreSuch
+  loses how AreSuch h = moved (λ p i. (losses : Losses)
+      → AreLosses p of.mode how.cases how.join i of.max losses → AreSuch losses) a b same h
 
   lists : (node : List ℕ) (AreSuch : List StructureForm → Type 0) → ListsSuch of a node AreSuch
       → ListsSuch of b node AreSuch
@@ -402,9 +421,9 @@ module _ (told : Option Held)
 
     done_answer : (command : CommandForm) (a : Answer) → IsAnswer told command a → CanAnswer told command
         → a.is_lost ≡ false
-    done_answer (TellsLosses of) a h can =
+    done_answer (TellsLosses of how) a h can =
         let same = same_inputs of can.0 h.0 can.1 h.1 in
-        let none = loses of can.0 h.0 same AreNone can.3 h.2.losses h.2.are in
+        let none = loses of can.0 h.0 same how AreNone can.3 h.2.losses h.2.are in
         lost a.is_lost (AreNone h.2.losses) h.2.any none
     done_answer (Shows program report) a h can = h.1
     done_answer (ListsEdges program) a h can = h.1
@@ -418,9 +437,9 @@ module _ (told : Option Held)
 
     lost_answer : (command : CommandForm) (a : Answer) → IsAnswer told command a → LosesSome told command
         → a.is_lost ≡ true
-    lost_answer (TellsLosses of) a h some =
+    lost_answer (TellsLosses of how) a h some =
         let same = same_inputs of some.0 h.0 some.1 h.1 in
-        let such = loses of some.0 h.0 same (λ losses. ¬ AreNone losses) some.3 h.2.losses h.2.are in
+        let such = loses of some.0 h.0 same how (λ losses. ¬ AreNone losses) some.3 h.2.losses h.2.are in
         lost_some a.is_lost (AreNone h.2.losses) h.2.any such
     lost_answer other a h some = absurd some
 
@@ -483,7 +502,8 @@ module _ (told : Option Held)
         kept of h.0 (kept_said of keeps.0 h.0 keeps.1 h.1 keeps.2) h.2
     within_limits (TellsStructure of node index) h keeps =
         kept of h.0 (kept_said of keeps.0 h.0 keeps.1 h.1 keeps.2) h.2
-    within_limits (TellsLosses of) h keeps = kept of h.0 (kept_said of keeps.0 h.0 keeps.1 h.1 keeps.2) h.2
+    within_limits (TellsLosses of how) h keeps = kept_listed how.join (drawn_form h.0) of.mode h.0.initial
+        of.max (as_said of (λ p i. KeepsListed how.join p of.mode i of.max) keeps.0 h.0 keeps.1 h.1 keeps.2) h.2
     within_limits (TakesStep of edge) h keeps = kept_each of of edge h.0
         (as_said of (λ p i. All (KeepsBudgets p edge) i) keeps.0 h.0 keeps.1 h.1 keeps.2) h.2
     within_limits (TellsCounts of) h keeps = kept_reached of of h.0
@@ -495,13 +515,13 @@ module _ (told : Option Held)
         within_limits (TellsMessage of edge number) h (can.0, can.1, can.2)
     done_within (TellsStructure of node index) h can =
         within_limits (TellsStructure of node index) h (can.0, can.1, can.2)
-    done_within (TellsLosses of) h can = within_limits (TellsLosses of) h (can.0, can.1, can.2)
+    done_within (TellsLosses of how) h can = within_limits (TellsLosses of how) h (can.0, can.1, can.2)
     done_within (TakesStep of edge) h can = within_limits (TakesStep of edge) h (can.0, can.1, can.2)
     done_within (TellsCounts of) h can = within_limits (TellsCounts of) h (can.0, can.1, can.2)
     done_within other h can = h
 
     some_within : (command : CommandForm) → Stops told command → LosesSome told command → ⊥
-    some_within (TellsLosses of) h some = within_limits (TellsLosses of) h (some.0, some.1, some.2)
+    some_within (TellsLosses of how) h some = within_limits (TellsLosses of how) h (some.0, some.1, some.2)
     some_within other h some = some
 
     stops_there : (command : CommandForm) (what : Sought) → Stops told command → IsAbsent told command what → ⊥
@@ -536,7 +556,7 @@ module _ (told : Option Held)
             none.2.1)
             none.2.2
         by other none = none
-    absent_done (TellsLosses of) what h can = h.2
+    absent_done (TellsLosses of how) what h can = h.2
     absent_done (TakesStep of edge) what h can =
         edge_there (drawn_form h.0) edge what
         (has_edge of can.0 h.0 (same_inputs of can.0 h.0 can.1 h.1) edge can.3)
@@ -547,7 +567,7 @@ module _ (told : Option Held)
     absent_some : (command : CommandForm) (what : Sought)
         → FilesMeanSuch told command (λ of inputs. NamesNothing command of inputs what)
         → LosesSome told command → ⊥
-    absent_some (TellsLosses of) what h some = h.2
+    absent_some (TellsLosses of how) what h some = h.2
     absent_some other what h some = some
 
     one_absence : (command : CommandForm) (what other : Sought)

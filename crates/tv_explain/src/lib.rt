@@ -23,7 +23,10 @@ mod views;
 mod work;
 
 pub use fault::{Ending, Sought, Unwritten};
-pub use laws::{edges_are_kept, reports_cover_sources, silence_is_no_line};
+pub use laws::{
+    chains_are_as_long, edges_are_kept, no_message_is_no_line, reports_cover_sources,
+    silence_is_no_line, texts_are_one,
+};
 use std::alloc::Global;
 use tv_explain_words::one_command;
 use tv_lex::one_reading;

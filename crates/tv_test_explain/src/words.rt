@@ -27,6 +27,10 @@ structure p i L0 first
 losses p
 losses p i 0
 losses p i --maps
+losses p i --cases --cases
+losses p i --join --cases --join
+counts p i --join
+counts p i --cases
 losses p i --delta --recompute
 losses p i --max-structures=0
 compile s
@@ -53,7 +57,12 @@ counts p i 0
 counts p i --max-structures=0
 complete p
 complete p i i
-complete p i --delta";
+complete p i --delta
+message --unknown --unknown p i 3 0
+losses --unknown p i
+counts --unknown p i
+step --unknown p i 0
+edges --unknown p";
 
 /// Words that name what isn't there, and what is told of them.
 const ABSENT: &str = "message p i 4 0;no such edge
