@@ -31,7 +31,8 @@ fn of<'a>(r: &Reach<'a>, variable: VarId) -> Reach<'a>
 
 /// What is behind the variable along the field.
 fn behind(alloc: Global, r: &Reach<'_>) -> Result<Formula, AllocError>
-    ensures { IfOk result (λ g. form_of g ≡ reached_behind (source_of r.now.source.now) r.now.field.0 r.now.variable.0) }
+    ensures { IfOk result
+        (λ g. form_of g ≡ reached_behind (source_of r.now.source.now) r.now.field.0 r.now.variable.0) }
 {
     let edge = both(alloc, reaching(r, 1), leading(r, 1, 0))?;
     let led_back = some(alloc, 1, edge)?;
@@ -42,7 +43,8 @@ fn behind(alloc: Global, r: &Reach<'_>) -> Result<Formula, AllocError>
 /// `TC (v_1, v) (v_2, v_3) !x(v_2) & f(v_2, v_3)`
 fn closure_around(alloc: Global, r: &Reach<'_>, x: VarId) -> Result<Formula, AllocError>
     ensures { IfOk result (λ g. form_of g
-        ≡ FClosure 1 0 2 3 (FAnd (FNot (points x.0 2)) (leads (source_of r.now.source.now) r.now.field.0 2 3))) }
+        ≡ FClosure 1 0 2 3
+        (FAnd (FNot (points x.0 2)) (leads (source_of r.now.source.now) r.now.field.0 2 3))) }
 {
     let elsewhere = negation(alloc, pointing(x, 2))?;
     let body = both(alloc, elsewhere, leading(r, 2, 3))?;
@@ -76,7 +78,8 @@ fn cell_reached(alloc: Global, r: &Reach<'_>, x: VarId) -> Result<Formula, Alloc
 /// The same by what is reached, for another variable than `x`.
 fn still_other(alloc: Global, r: &Reach<'_>, x: VarId) -> Result<Formula, AllocError>
     requires cell { IsVariableOf (source_of r.now.source.now) x.0 }
-    ensures { IfOk result (λ g. form_of g ≡ FAnd (reaches (source_of r.now.source.now) r.now.field.0 r.now.variable.0 0)
+    ensures { IfOk result
+        (λ g. form_of g ≡ FAnd (reaches (source_of r.now.source.now) r.now.field.0 r.now.variable.0 0)
         (FOr (FNot (reaches_cell (source_of r.now.source.now) r.now.field.0 r.now.variable.0 x.0))
         (FOr (FNot (reaches (source_of r.now.source.now) r.now.field.0 x.0 0)) (FOr (points x.0 0)
         (reached_around (source_of r.now.source.now) x.0 r.now.field.0 r.now.variable.0))))) }
@@ -131,7 +134,8 @@ fn null_change(r: &Reach<'_>, x: VarId) -> Option<Formula>
 
 /// Behind `x = new`.
 fn new_change(r: &Reach<'_>, x: VarId) -> Option<Formula>
-    ensures { pre_of result ≡ reach_change (source_of r.now.source.now) (ANew x.0) r.now.field.0 r.now.variable.0 }
+    ensures { pre_of result
+        ≡ reach_change (source_of r.now.source.now) (ANew x.0) r.now.field.0 r.now.variable.0 }
 {
     if r.variable.0 == x.0 {
         Some(Formula::IsNew(Var(0)))
@@ -143,7 +147,8 @@ fn new_change(r: &Reach<'_>, x: VarId) -> Option<Formula>
 /// Behind `x = y`.
 fn copy_change(r: &Reach<'_>, x: VarId, y: VarId) -> Option<Formula>
     requires target { IsVariableOf (source_of r.now.source.now) y.0 }
-    ensures { pre_of result ≡ reach_change (source_of r.now.source.now) (ACopy x.0 y.0) r.now.field.0 r.now.variable.0 }
+    ensures { pre_of result
+        ≡ reach_change (source_of r.now.source.now) (ACopy x.0 y.0) r.now.field.0 r.now.variable.0 }
 {
     if r.variable.0 == x.0 {
         Some(reaching(&of(r, y), 0))
