@@ -68,7 +68,7 @@ legs_more R p heads (x ∷ xs) (y ∷ ys) zip leg step =
 
 -- taking one more of a list
 take-more : {X : Type 0} (xs : List X) (i : ℕ) (x : X) → slice_get xs i ≡ Some x → take (i + 1) xs ≡ take i xs ++ x ∷ []
-take-more xs i x at = rw add-one (by xs i at)
+take-more {X = X} xs i x at = rw add-one (by xs i at)
   where
     by : (ys : List X) (k : ℕ) → slice_get ys k ≡ Some x → take (suc k) ys ≡ take k ys ++ x ∷ []
     by [] k e = cc
