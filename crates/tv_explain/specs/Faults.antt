@@ -88,10 +88,10 @@ usage_text =
     ++ line (codes
     "       tvla-explain structure PROGRAM INITIAL NODE INDEX [--unknown] [--max-structures N] [--recompute | --delta]")
     ++ line (codes
-    "       tvla-explain losses PROGRAM INITIAL [--max-structures N] [--recompute | --delta]")
+    "       tvla-explain losses PROGRAM INITIAL [--cases] [--join] [--max-structures N] [--recompute | --delta]")
     ++ line (codes "       tvla-explain show PROGRAM REPORT")
     ++ line (codes "       tvla-explain edges PROGRAM")
-    ++ line (codes "       tvla-explain compiled SOURCE")
+    ++ line (codes "       tvla-explain compiled SOURCE [--updates]")
     ++ line (codes "       tvla-explain step PROGRAM STRUCTURES EDGE [--recompute | --delta]")
     ++ line (codes "       tvla-explain plan PROGRAM [--recompute | --delta]")
     ++ line (codes

@@ -28,7 +28,8 @@ use std::alloc::{AllocError, Global};
 use tv_causes::caused_text;
 use tv_counts::counts_text;
 use tv_explain_text::{Told, append_alarm, messages_at, trail_text};
-use tv_explain_words::Analyzed;
+use tv_explain_words::{Analyzed, LossOptions};
+use tv_losses::Asked;
 use tv_losses_text::explain_losses;
 use tv_model::{Bytes, Message};
 use tv_stages::Stager;
@@ -280,16 +281,27 @@ fn counts_answer(alloc: Global, inputs: &Inputs, of: &Analyzed) -> Result<Vec<u8
     }
 }
 
-/// What the analysis loses.
-fn losses_answer(alloc: Global, inputs: &Inputs, of: &Analyzed) -> Result<Answer, Fault>
+/// What the analysis loses, or the joined one: all lost cases, or the first of each edge alone.
+fn losses_answer(
+    alloc: Global,
+    inputs: &Inputs,
+    of: &Analyzed,
+    how: LossOptions,
+) -> Result<Answer, Fault>
     requires { AreReady inputs.now }
-    ensures found { IfOk result (TellsOfLosses (analyzed_of of.now) inputs.now) }
+    ensures found { IfOk result (TellsOfLosses (analyzed_of of.now) how inputs.now) }
     ensures cause { IfErr result
-        (IsStopped (TellsLosses (analyzed_of of.now)) (analyzed_of of.now) inputs.now) }
+        (IsStopped (TellsLosses (analyzed_of of.now) how) (analyzed_of of.now) inputs.now) }
 {
-    let program = &inputs.drawn.program;
-    let heads = &inputs.drawn.heads;
-    match explain_losses(alloc, program, heads, &inputs.initial, of.mode, of.max) {
+    let asked = Asked {
+        program: &inputs.drawn.program,
+        initial: &inputs.initial,
+        mode: of.mode,
+        max: of.max,
+        all: how.cases,
+        joined: how.join,
+    };
+    match explain_losses(alloc, &asked, &inputs.drawn.heads) {
         Err(error) => Err(fault_of_work(error, of.max)),
         Ok(report) => Ok(Answer {
             text: report.text,
@@ -315,7 +327,7 @@ pub fn answer(
         Question::Structure { node, index } => plain(structure_text(
             alloc, inputs, of, node, index,
         )),
-        Question::Losses => losses_answer(alloc, inputs, of),
+        Question::Losses { how } => losses_answer(alloc, inputs, of, how),
         Question::Step { edge } => plain(step_answer(alloc, inputs, of, edge)),
         Question::Counts => plain(counts_answer(alloc, inputs, of)),
     }

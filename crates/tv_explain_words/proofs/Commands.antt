@@ -19,6 +19,8 @@ use Rattle.tv_explain_words.specs.Words.{IsSaid, NoneSaid, Spells, SpellsNothing
 use Rattle.tv_explain_words.specs.Words.{AskedForm, HasNoStyle, HasStyle, IsAskedOn, asked_flags, asked_of}
 use Rattle.tv_explain_words.specs.Words.{told_asked}
 use Rattle.tv_explain_words.specs.declared.words.Command.{Command}
+use Rattle.tv_explain_words.specs.Words.{HasLossOptions, HasNoOther, HasUpdates, IsBare}
+use Rattle.tv_explain_words.specs.declared.words.LossOptions.{LossOptions}
 use Rattle.tv_explain_words.specs.declared.words.Style.{Style}
 
 -- ---- lines that are the same but for counts of 255 and more
@@ -26,11 +28,17 @@ use Rattle.tv_explain_words.specs.declared.words.Style.{Style}
 record AreAskedAlike (a b : AskedForm) : Type 0 where
   pub line : AreAlike a.line b.line
   pub unknown : min a.unknown 255 ≡ min b.unknown 255
+  pub cases : min a.cases 255 ≡ min b.cases 255
+  pub join : min a.join 255 ≡ min b.join 255
+  pub updates : min a.updates 255 ≡ min b.updates 255
 
 asked_turned : (a b : AskedForm) → AreAskedAlike a b → AreAskedAlike b a
 asked_turned a b alike = record {
   line = turned a.line b.line alike.line;
   unknown = sym alike.unknown;
+  cases = sym alike.cases;
+  join = sym alike.join;
+  updates = sym alike.updates;
 }
 
 -- such a count tells whether an option stands once, or not at all
@@ -46,9 +54,23 @@ module _ (a b : AskedForm) (alike : AreAskedAlike a b) where
   same_without : HasNoStyle a → HasNoStyle b
   same_without h = same_style (record { unknown = false }) h
 
+  same_losses : (how : LossOptions) → HasLossOptions a how → HasLossOptions b how
+  same_losses how h = (
+    once_too a.cases b.cases how.cases alike.cases h.0,
+    once_too a.join b.join how.join alike.join h.1,
+  )
+
+  same_updates : (updates : Bool) → HasUpdates a updates → HasUpdates b updates
+  same_updates updates h = once_too a.updates b.updates updates alike.updates h
+
+  same_other : HasNoOther a → HasNoOther b
+  same_other h = (same_losses (record { cases = false; join = false }) h.0, same_updates false h.1)
+
+  same_bare : IsBare a → IsBare b
+  same_bare h = (same_flags a.line b.line alike.line Given false false h.0, sym alike.line.max ∙ h.1)
+
   same_plain : IsPlain a → IsPlain b
-  same_plain h =
-      (same_flags a.line b.line alike.line Given false false h.0, sym alike.line.max ∙ h.1, same_without h.2)
+  same_plain h = (same_bare h.0, same_without h.1, same_other h.2)
 
   same_options : (of : AnalyzedForm) → HasOptions a of → HasOptions b of
   same_options of h = (
@@ -61,11 +83,23 @@ module _ (a b : AskedForm) (alike : AreAskedAlike a b) where
   same_said (Shows program report) h = (sym alike.line.operands ∙ h.0, same_plain h.1)
   same_said (ListsEdges program) h = (sym alike.line.operands ∙ h.0, same_plain h.1)
   same_said (TellsMessage of edge number) h =
-      (h.0, h.1, sym alike.line.operands ∙ h.2, same_options of h.3, h.4, h.5)
+      (h.0, h.1, sym alike.line.operands ∙ h.2, same_options of h.3, h.4, h.5, same_other h.6)
   same_said (TellsStructure of node index) h =
-      (h.0, sym alike.line.operands ∙ h.1, same_options of h.2, h.3)
-  same_said (TellsLosses of) h = (sym alike.line.operands ∙ h.0, same_options of h.1, same_without h.2)
-  same_said (Compiles source) h = (sym alike.line.operands ∙ h.0, same_plain h.1)
+      (h.0, sym alike.line.operands ∙ h.1, same_options of h.2, h.3, same_other h.4)
+  same_said (TellsLosses of how) h = (
+    sym alike.line.operands ∙ h.0,
+    same_options of h.1,
+    same_without h.2,
+    same_losses how h.3,
+    same_updates false h.4,
+  )
+  same_said (Compiles source updates) h = (
+    sym alike.line.operands ∙ h.0,
+    same_bare h.1,
+    same_without h.2,
+    same_losses (record { cases = false; join = false }) h.3,
+    same_updates updates h.4,
+  )
   same_said (TakesStep of edge) h = (
     h.0,
     sym alike.line.operands ∙ h.1,
@@ -73,14 +107,17 @@ module _ (a b : AskedForm) (alike : AreAskedAlike a b) where
     same_without h.3,
     sym alike.line.max ∙ h.4,
     h.5,
+    same_other h.6,
   )
   same_said (TellsPlan program mode delta) h = (
     sym alike.line.operands ∙ h.0,
     same_flags a.line b.line alike.line mode delta false h.1,
     sym alike.line.max ∙ h.2,
     same_without h.3,
+    same_other h.4,
   )
-  same_said (TellsCounts of) h = (sym alike.line.operands ∙ h.0, same_options of h.1, same_without h.2)
+  same_said (TellsCounts of) h =
+      (sym alike.line.operands ∙ h.0, same_options of h.1, same_without h.2, same_other h.3)
   same_said (Completes program structures) h = (sym alike.line.operands ∙ h.0, same_plain h.1)
 
 -- ---- what stands on the words
@@ -106,6 +143,9 @@ module _ (words : List (List ℕ)) (m : ArgMatches) (h : HasLine asked_flags lin
       max = h.finds.values (codes "max-structures") refl;
     };
     unknown = h.finds.uses (codes "unknown") refl;
+    cases = h.finds.uses (codes "cases") refl;
+    join = h.finds.uses (codes "join") refl;
+    updates = h.finds.uses (codes "updates") refl;
   }
 
 module _ (name : List ℕ) (words rest : List (List ℕ)) (whole : words ≡ name ∷ rest) where
@@ -150,7 +190,7 @@ module _ (name : List ℕ) (words rest : List (List ℕ)) (whole : words ≡ nam
         none command (
           same.0,
           same_said (asked_of h.parts h.behind) (told_asked m)
-              (turned (told_asked m) (asked_of h.parts h.behind) (told rest m h)) command
+              (asked_turned (told_asked m) (asked_of h.parts h.behind) (told rest m h)) command
               (subst (λ l. Says l command) line spells.2.says),
         )
     unspelled (Err e) none = none
@@ -212,12 +252,16 @@ one_said line (TellsStructure of node index) (TellsStructure of' node' index') n
     let same = one_asked line of of' (ap (operand 0) names) (ap (operand 1) names) a.2 b.2 in
     let places = one_number a.0 b.0 index index' (ap (operand 3) names) a.3 b.3 in
     λ i. TellsStructure (same i) (operand 2 (names i)) (places i)
-one_said line (TellsLosses of) (TellsLosses of') named a b =
+one_said line (TellsLosses of how) (TellsLosses of' how') named a b =
     let names : of.program ∷ of.initial ∷ [] ≡ of'.program ∷ of'.initial ∷ [] = sym a.0 ∙ b.0 in
-    ap TellsLosses (one_asked line of of' (ap (operand 0) names) (ap (operand 1) names) a.1 b.1)
-one_said line (Compiles source) (Compiles source') named a b =
+    let same = one_asked line of of' (ap (operand 0) names) (ap (operand 1) names) a.1 b.1 in
+    let cases = one_bool how.cases how'.cases (sym a.3.0 ∙ b.3.0) in
+    let joins = one_bool how.join how'.join (sym a.3.1 ∙ b.3.1) in
+    λ i. TellsLosses (same i) (record { cases = cases i; join = joins i })
+one_said line (Compiles source updates) (Compiles source' updates') named a b =
     let names : source ∷ [] ≡ source' ∷ [] = sym a.0 ∙ b.0 in
-    λ i. Compiles (operand 0 (names i))
+    let on = one_bool updates updates' (sym a.4 ∙ b.4) in
+    λ i. Compiles (operand 0 (names i)) (on i)
 one_said line (TakesStep of edge) (TakesStep of' edge') named a b =
     let names : of.program ∷ of.initial ∷ a.0 ∷ [] ≡ of'.program ∷ of'.initial ∷ b.0 ∷ [] = sym a.1 ∙ b.1 in
     let same = one_asked line of of' (ap (operand 0) names) (ap (operand 1) names) a.2 b.2 in

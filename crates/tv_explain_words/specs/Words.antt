@@ -10,6 +10,7 @@ use Rattle.tv_words.specs.Words.{HasFlags, IsMax, LineForm, line_of, line_settin
 use Rattle.tv_explain_words.specs.declared.asked.AskedLine.{AskedLine}
 use Rattle.tv_explain_words.specs.declared.words.Analyzed.{Analyzed}
 use Rattle.tv_explain_words.specs.declared.words.Command.{Command}
+use Rattle.tv_explain_words.specs.declared.words.LossOptions.{LossOptions}
 use Rattle.tv_explain_words.specs.declared.words.Style.{Style}
 use Rattle.tv_explain_words.specs.declared.words.Command.TheVariants.{Show, Edges, Message, Structure, Losses}
 use Rattle.tv_explain_words.specs.declared.words.Command.TheVariants.{Compiled, Step, Plan, Counts, Complete}
@@ -39,8 +40,8 @@ pub data CommandForm : Type 0 where
   ListsEdges : (program : List ℕ) → CommandForm
   TellsMessage : (of : AnalyzedForm) → (edge number : ℕ) → CommandForm
   TellsStructure : (of : AnalyzedForm) → (node : List ℕ) → (index : ℕ) → CommandForm
-  TellsLosses : (of : AnalyzedForm) → CommandForm
-  Compiles : (source : List ℕ) → CommandForm
+  TellsLosses : (of : AnalyzedForm) → (how : LossOptions) → CommandForm
+  Compiles : (source : List ℕ) → (updates : Bool) → CommandForm
   TakesStep : (of : AnalyzedForm) → (edge : ℕ) → CommandForm
   TellsPlan : (program : List ℕ) → (mode : Mode) → (delta : Bool) → CommandForm
   TellsCounts : (of : AnalyzedForm) → CommandForm
@@ -51,8 +52,8 @@ form_of (Show program report) = Shows (string_bytes program) (string_bytes repor
 form_of (Edges program) = ListsEdges (string_bytes program)
 form_of (Message of edge number) = TellsMessage (analyzed_of of) edge number
 form_of (Structure of node index) = TellsStructure (analyzed_of of) (string_bytes node) index
-form_of (Losses of) = TellsLosses (analyzed_of of)
-form_of (Compiled source) = Compiles (string_bytes source)
+form_of (Losses of how) = TellsLosses (analyzed_of of) how
+form_of (Compiled source updates) = Compiles (string_bytes source) updates
 form_of (Step of edge) = TakesStep (analyzed_of of) edge
 form_of (Plan program mode delta) = TellsPlan (string_bytes program) mode delta
 form_of (Counts of) = TellsCounts (analyzed_of of)
@@ -68,8 +69,8 @@ command_word (Shows program report) = codes "show"
 command_word (ListsEdges program) = codes "edges"
 command_word (TellsMessage of edge number) = codes "message"
 command_word (TellsStructure of node index) = codes "structure"
-command_word (TellsLosses of) = codes "losses"
-command_word (Compiles source) = codes "compiled"
+command_word (TellsLosses of how) = codes "losses"
+command_word (Compiles source updates) = codes "compiled"
 command_word (TakesStep of edge) = codes "step"
 command_word (TellsPlan program mode delta) = codes "plan"
 command_word (TellsCounts of) = codes "counts"
@@ -83,18 +84,25 @@ IsNumber word number = (word ≡ decimal number) × (number < 2 ^ 32)
 
 -- the options without a value
 abbrev pub asked_flags : List (List ℕ)
-asked_flags = codes "recompute" ∷ codes "delta" ∷ codes "maps" ∷ codes "unknown" ∷ []
+asked_flags = codes "recompute" ∷ codes "delta" ∷ codes "maps" ∷ codes "unknown" ∷ codes "cases" ∷ codes "join"
+    ∷ codes "updates" ∷ []
 
--- what stands on a line: what any command may have, and how often each option stands that chains alone have
+-- what stands on a line: what any command may have, and how often each option stands that few commands have
 pub record AskedForm : Type 0 where
   pub line : LineForm
   pub unknown : ℕ
+  pub cases : ℕ
+  pub join : ℕ
+  pub updates : ℕ
 
 -- what the parts say, and the operands behind `--`
 abbrev pub asked_of : List Part → (behind : List (List ℕ)) → AskedForm
 asked_of parts behind = record {
   line = line_of parts behind;
   unknown = uses_of (codes "unknown") parts;
+  cases = uses_of (codes "cases") parts;
+  join = uses_of (codes "join") parts;
+  updates = uses_of (codes "updates") parts;
 }
 
 -- the same as `clap` tells it
@@ -102,6 +110,9 @@ abbrev pub told_asked : ArgMatches → AskedForm
 told_asked matches = record {
   line = told_line matches;
   unknown = uses_in matches (codes "unknown");
+  cases = uses_in matches (codes "cases");
+  join = uses_in matches (codes "join");
+  updates = uses_in matches (codes "updates");
 }
 
 -- the line's texts by their bytes
@@ -109,6 +120,9 @@ abbrev pub asked_in : AskedLine → AskedForm
 asked_in asked = record {
   line = line_in asked.line;
   unknown = asked.unknown;
+  cases = asked.cases;
+  join = asked.join;
+  updates = asked.updates;
 }
 
 -- this stands on the words
@@ -126,9 +140,29 @@ HasStyle asked style = asked.unknown ≡ once style.unknown
 abbrev pub HasNoStyle : AskedForm → Type 0
 HasNoStyle asked = HasStyle asked (record { unknown = false })
 
+-- the line's options tell losses so
+abbrev pub HasLossOptions : AskedForm → LossOptions → Type 0
+HasLossOptions asked how = (asked.cases ≡ once how.cases) × (asked.join ≡ once how.join)
+
+-- no option of losses stands
+abbrev pub HasNoLossOptions : AskedForm → Type 0
+HasNoLossOptions asked = HasLossOptions asked (record { cases = false; join = false })
+
+-- a compiled program is asked for with updates, or without
+abbrev pub HasUpdates : AskedForm → Bool → Type 0
+HasUpdates asked updates = asked.updates ≡ once updates
+
+-- no option stands that few commands have, but for those of chains
+abbrev pub HasNoOther : AskedForm → Type 0
+HasNoOther asked = HasNoLossOptions asked × HasUpdates asked false
+
+-- the line has none of the options that many commands have
+abbrev pub IsBare : AskedForm → Type 0
+IsBare asked = HasFlags asked.line Given false false × (asked.line.max ≡ [])
+
 -- the line has no options
 abbrev pub IsPlain : AskedForm → Type 0
-IsPlain asked = HasFlags asked.line Given false false × (asked.line.max ≡ []) × HasNoStyle asked
+IsPlain asked = IsBare asked × HasNoStyle asked × HasNoOther asked
 
 -- the line's options are those of the analysis
 abbrev pub HasOptions : AskedForm → AnalyzedForm → Type 0
@@ -142,18 +176,22 @@ Says asked (Shows program report) = (asked.line.operands ≡ program ∷ report 
 Says asked (ListsEdges program) = (asked.line.operands ≡ program ∷ []) × IsPlain asked
 Says asked (TellsMessage of edge number) = (e n : List ℕ)
     × (asked.line.operands ≡ of.program ∷ of.initial ∷ e ∷ n ∷ []) × HasOptions asked of × IsNumber e edge
-    × IsNumber n number
+    × IsNumber n number × HasNoOther asked
 Says asked (TellsStructure of node index) = (n : List ℕ)
     × (asked.line.operands ≡ of.program ∷ of.initial ∷ node ∷ n ∷ []) × HasOptions asked of × IsNumber n index
-Says asked (TellsLosses of) = (asked.line.operands ≡ of.program ∷ of.initial ∷ []) × HasOptions asked of
-    × HasNoStyle asked
-Says asked (Compiles source) = (asked.line.operands ≡ source ∷ []) × IsPlain asked
+    × HasNoOther asked
+Says asked (TellsLosses of how) = (asked.line.operands ≡ of.program ∷ of.initial ∷ []) × HasOptions asked of
+    × HasNoStyle asked × HasLossOptions asked how × HasUpdates asked false
+Says asked (Compiles source updates) = (asked.line.operands ≡ source ∷ []) × IsBare asked × HasNoStyle asked
+    × HasNoLossOptions asked × HasUpdates asked updates
 Says asked (TakesStep of edge) = (e : List ℕ) × (asked.line.operands ≡ of.program ∷ of.initial ∷ e ∷ [])
     × HasOptions asked of × HasNoStyle asked × (asked.line.max ≡ []) × IsNumber e edge
+    × HasNoOther asked
 Says asked (TellsPlan program mode delta) = (asked.line.operands ≡ program ∷ [])
     × HasFlags asked.line mode delta false × (asked.line.max ≡ []) × HasNoStyle asked
+    × HasNoOther asked
 Says asked (TellsCounts of) = (asked.line.operands ≡ of.program ∷ of.initial ∷ []) × HasOptions asked of
-    × HasNoStyle asked
+    × HasNoStyle asked × HasNoOther asked
 Says asked (Completes program structures) = (asked.line.operands ≡ program ∷ structures ∷ []) × IsPlain asked
 
 -- a line that stands on the words says the command

@@ -6,4 +6,4 @@ mod laws;
 mod words;
 
 pub use laws::one_command;
-pub use words::{Analyzed, Command, Style, read_words};
+pub use words::{Analyzed, Command, LossOptions, Style, read_words};

@@ -6,7 +6,10 @@ ghost use Rattle.tv_words.specs.Words.{words_of};
 ghost use Rattle.tv_explain_words.specs.Words.{IsNumber, IsSaid, NoneSaid, Spells, SpellsNothing, SaidOf};
 ghost use Rattle.tv_explain_words.specs.Words.{AsksNothing, IsAsked, analyzed_of, asked_in};
 
-use crate::asked::{AskedLine, asked_command, has_no_style, is_plain, style_of, told_asked};
+use crate::asked::{
+    AskedLine, asked_command, has_no_other, has_no_style, is_bare, is_plain, loss_options,
+    style_of, told_asked, updates_of,
+};
 use itoa::Buffer;
 use std::alloc::{AllocError, Global};
 use tv_model::Mode;
@@ -16,6 +19,14 @@ use tv_words::{four, has_values, max_of, one, read_line, two, updating};
 #[derive(Clone, Copy, Debug, PartialEq, Eq)]
 pub struct Style {
     pub unknown: bool,
+}
+
+/// How losses are told: with `cases` each lost case, else of each edge the first; with `join` those of the joined
+/// analysis.
+#[derive(Clone, Copy, Debug, PartialEq, Eq)]
+pub struct LossOptions {
+    pub cases: bool,
+    pub join: bool,
 }
 
 /// What an analysis is asked, as for `tvla analyze`: its files by their names, how many structures may be
@@ -59,10 +70,13 @@ pub enum Command {
     /// Writes what the analysis loses.
     Losses {
         of: Analyzed,
+        how: LossOptions,
     },
-    /// Writes the program that a source program is compiled to.
+    /// Writes the program that a source program is compiled to; with `updates` the one that updates what
+    /// variables reach.
     Compiled {
         source: String,
+        updates: bool,
     },
     /// Writes one abstract step of each structure of a file along the edge of this number, stage by stage.
     /// The file stands in the place of the initial structures, and `max` is that of words that don't say it.
@@ -189,6 +203,9 @@ fn message(alloc: Global, line: &AskedLine<'_, '_>) -> Result<Option<Command>, A
     let Some((program, initial, edge, message)) = four(line.line.operands) else {
         return Ok(None);
     };
+    if !has_no_other(line) {
+        return Ok(None);
+    }
     let Some(edge) = number(edge) else {
         return Ok(None);
     };
@@ -210,6 +227,9 @@ fn structure(alloc: Global, line: &AskedLine<'_, '_>) -> Result<Option<Command>,
     let Some((program, initial, node, index)) = four(line.line.operands) else {
         return Ok(None);
     };
+    if !has_no_other(line) {
+        return Ok(None);
+    }
     let Some(index) = number(index) else {
         return Ok(None);
     };
@@ -231,13 +251,16 @@ fn losses(alloc: Global, line: &AskedLine<'_, '_>) -> Result<Option<Command>, Al
     let Some((program, initial)) = two(line.line.operands) else {
         return Ok(None);
     };
-    if !has_no_style(line) {
+    let Some(how) = loss_options(line) else {
+        return Ok(None);
+    };
+    if !has_no_style(line) || line.updates != 0 {
         return Ok(None);
     }
     let Some(of) = asked(alloc, line, program, initial)? else {
         return Ok(None);
     };
-    Ok(Some(Command::Losses { of }))
+    Ok(Some(Command::Losses { of, how }))
 }
 
 /// The command of the name `compiled` that the line says.
@@ -249,11 +272,15 @@ fn compiled(alloc: Global, line: &AskedLine<'_, '_>) -> Result<Option<Command>, 
     let Some(source) = one(line.line.operands) else {
         return Ok(None);
     };
-    if !is_plain(line) {
+    let Some(updates) = updates_of(line) else {
+        return Ok(None);
+    };
+    if !is_bare(line) || !has_no_style(line) || line.cases != 0 || line.join != 0 {
         return Ok(None);
     }
     Ok(Some(Command::Compiled {
         source: String::from_str(alloc, source)?,
+        updates,
     }))
 }
 
@@ -268,7 +295,7 @@ fn step(alloc: Global, line: &AskedLine<'_, '_>) -> Result<Option<Command>, Allo
     let Some(edge) = number(edge) else {
         return Ok(None);
     };
-    if has_values(line.line.max) || !has_no_style(line) {
+    if has_values(line.line.max) || !has_no_style(line) || !has_no_other(line) {
         return Ok(None);
     }
     let Some(of) = asked(alloc, line, program, structures)? else {
@@ -288,7 +315,11 @@ fn plan(alloc: Global, line: &AskedLine<'_, '_>) -> Result<Option<Command>, Allo
     let Some((mode, delta)) = updating(line.line.recompute, line.line.delta) else {
         return Ok(None);
     };
-    if line.line.maps != 0 || has_values(line.line.max) || !has_no_style(line) {
+    if line.line.maps != 0
+        || has_values(line.line.max)
+        || !has_no_style(line)
+        || !has_no_other(line)
+    {
         return Ok(None);
     }
     Ok(Some(Command::Plan {
@@ -306,7 +337,7 @@ fn counts(alloc: Global, line: &AskedLine<'_, '_>) -> Result<Option<Command>, Al
     let Some((program, initial)) = two(line.line.operands) else {
         return Ok(None);
     };
-    if !has_no_style(line) {
+    if !has_no_style(line) || !has_no_other(line) {
         return Ok(None);
     }
     match asked(alloc, line, program, initial)? {

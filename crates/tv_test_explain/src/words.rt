@@ -27,6 +27,10 @@ structure p i L0 first
 losses p
 losses p i 0
 losses p i --maps
+losses p i --cases --cases
+losses p i --join --cases --join
+counts p i --join
+counts p i --cases
 losses p i --delta --recompute
 losses p i --max-structures=0
 compile s
@@ -34,6 +38,12 @@ compiled
 compiled s s
 compiled s --delta
 compiled s --max-structures=5
+compiled --updates
+compiled s --updates --updates
+compiled s --updates=1
+compiled -- --updates
+edges p --updates
+plan p --updates
 step p i
 step p i 0 0
 step p i L0
