@@ -24,6 +24,7 @@ const decoded = text => new TextDecoder().decode(Uint8Array.from(text, letter =>
 export class Explanation {
   steps = []; // of a chain: a title, and a structure, an edge or a message
   edges = []; // with their numbers, files, lines and messages
+  rules = []; // behind the edges: of each what is told, a predicate's declaration or a file and line
   nodes = []; // with structures
   losses = [];
   isNone = false; // whether it says that nothing is lost
@@ -65,6 +66,7 @@ export class Explanation {
     const isFirst = !this.steps.length, start = line.at, last = this.steps.at(-1);
     if (last?.message && line.skips("at hand")) return this.steps.push({ title: "at hand", structure: line.structure(), isAtHand: true });
     if (last?.message || last?.isAtHand) line.fault("no line behind a message and what raises it", start);
+    if (last?.edge && line.skips("  unknown ")) return this.risen(line, last);
     line.take(isFirst ? "initial " : "edge ");
     const number = line.number("a number"), step = { number, isInitial: isFirst };
     if (!isFirst) {
@@ -75,6 +77,12 @@ export class Explanation {
     if (!isFirst && line.sees("  message ")) step.message = this.raised(line);
     else step.structure = line.structure();
     this.steps.push(step);
+  }
+  /** A predicate that is unknown at more tuples than before the step. */
+  risen(line, step) {
+    const [, name, more, by] = line.match(/([A-Za-z_]\w*(?:\[[\w,]*\])?) \+([1-9]\d*) by (update|blur)/y, "a predicate, at how many more tuples it is unknown, and by what");
+    if (!line.isAtEnd) line.fault("the end of the line");
+    (step.risen ??= []).push({ name, more: Number(more), by });
   }
   raised(line) {
     line.take("  message ");
@@ -98,11 +106,21 @@ export class Explanation {
       last.messages.push(this.string(line));
       return;
     }
+    if (last && (this.rules.length || line.sees("rule "))) return this.rule(line);
     line.take("edge ");
     const start = line.at, number = line.number(`\`${this.edges.length}\``);
     if (number !== this.edges.length) line.fault(`edge ${this.edges.length}`, start);
     line.take("  ");
     this.edges.push({ number, ...this.head(line), messages: [] });
+    if (!line.isAtEnd) line.fault("the end of the line");
+  }
+  rule(line) {
+    line.take("rule ");
+    const start = line.at, number = line.number(`\`${this.rules.length}\``);
+    if (number !== this.rules.length) line.fault(`rule ${this.rules.length}`, start);
+    line.take("  ");
+    this.rules.push(decoded(line.match(/the declaration of [A-Za-z_]\w*(?:\[[\w,]*\])?|.+?:[1-9]\d*(?=[\r\n]|$)/y,
+      "`the declaration of NAME` or `FILE:LINE`")[0]));
     if (!line.isAtEnd) line.fault("the end of the line");
   }
   shown(line) {

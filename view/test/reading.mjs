@@ -241,6 +241,8 @@ test("what isn't in the grammar of lines is refused with line and column", async
     ["initial 0  (x&y)\nedge 0  p:2  L0 Go ( ) L1  (y&x)", "line 2, column 29: expected `x&y)`, found `y&x)`"],
     ["edge 0 p:2  L0 Go ( ) L1", "column 7: expected `  `, found ` p:2  L0 Go ( ) L1`"],
     ["edge 0  p:2  L0 Go() L1", "column 9: expected `FILE:LINE`, two blanks and an edge, found `p:2  L0 Go() L1`"],
+    ["edge 0  p:2  L0 Go ( ) L1\nrule 1  p:2", "line 2, column 6: expected rule 0, found `1  p:2`"],
+    ["edge 0  p:2  L0 Go ( ) L1\nrule 0  p", "line 2, column 9: expected `the declaration of NAME` or `FILE:LINE`, found `p`"],
     ["edge 1  p:2  L0 Go ( ) L1", "column 6: expected edge 0, found `1  p:2  L0 Go ( ) L1`"],
     ["node L structures 1\n1  (x)", "line 2, column 1: expected place 0 of node L, found `1  (x)`"],
     ["node L lists", "column 7: expected ` structures `, found ` lists`"],
@@ -264,12 +266,22 @@ test("the chain of docs/TUTORIAL.md is read, and written back byte for byte", ()
     ["chain", 9, text, { number: 2, file: "pairs.tvp", line: 28, source: "L3", target: "L4", call: "y_is_y_n()",
       text: "pairs.tvp:28  L3 y_is_y_n ( ) L4" }, 3]];
 });
+test("what became unknown at the steps of a chain is read", () => {
+  const text = "initial 0  (#0)  (x&y)\nedge 0  p:2  L Clear ( ) M  ((#0&x?))\n  unknown x +1 by blur\n  unknown r[n,x] +12 by update\n"
+    + "edge 1  p:3  M Say ( ) N  message 0 is 1/2: \"some\"\nat hand  ((#0&x?))\n", { kind, steps } = Explanation.read(bytesOf(text));
+  return [[kind, steps.length, steps[1].risen, steps[2].message.text, steps[3].isAtHand],
+    ["chain", 4, [{ name: "x", more: 1, by: "blur" }, { name: "r[n,x]", more: 12, by: "update" }], "some", true]];
+});
 test("the edges of docs/TUTORIAL.md are read", () => {
   const { kind, edges } = Explanation.read(bytesOf(block("edge 0  examples")));
   return [[kind, edges.map(({ number, line, source, call, target, messages }) => [number, line, source, call, target, messages])],
     ["edges", [[0, 9, "L1", "Copy_Var(y, x)", "L2", ["dangling pointer x"]],
       [1, 10, "L2", "Get_Next_L(y, y)", "L3", ["null dereference of y", "dangling pointer y"]],
       [2, 11, "L3", "uninterpreted()", "L2", []], [3, 12, "L3", "uninterpreted()", "L4", []]]]];
+});
+test("rules behind the edges are read", () => {
+  const { kind, edges, rules } = Explanation.read(bytesOf("edge 0  p:2  L0 Go ( ) L1\n  message 0 \"a\"\nrule 0  the declaration of r[n,x]\nrule 1  sub/more:12\n"));
+  return [[kind, edges.length, rules], ["edges", 1, ["the declaration of r[n,x]", "sub/more:12"]]];
 });
 test("the losses of docs/TUTORIAL.md are read, and `nothing is lost`", () => {
   const { kind, losses } = Explanation.read(bytesOf(block("edge 0 loses"))), [first] = losses;

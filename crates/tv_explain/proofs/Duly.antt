@@ -4,15 +4,14 @@ use Rattle.std.proofs.Common.{Result}
 use Rattle.std.proofs.Common.{Ok, Err}
 use Rattle.std.proofs.Common.{inl, inr}
 use Rattle.std.proofs.Common.{refl, sym, ap, subst, ◌∙◌, arith, ⊎_elim}
-use Rattle.std.proofs.lemmas.Option.{same_Some, slice_get_past, slice_get_within}
+use Rattle.std.proofs.lemmas.Option.{slice_get_past, slice_get_within}
 use Rattle.std.proofs.lemmas.List.Elements.{All-contains}
 use Rattle.std.specs.Prelude.{All, Contains, IsSome, IsTrue, length, slice_get}
-use Rattle.tv_compiled.specs.Compiled.{written}
 use Rattle.tv_complete_text.specs.Text.{ReadsAsStructures}
 use Rattle.tv_front.specs.Meaning.{Means}
-use Rattle.tv_lemmas.proofs.Options.{same_Ok}
 use Rattle.tv_lex.specs.Gather.{longest_gathered}
 use Rattle.tv_lex.specs.Pieces.{Reads}
+use Rattle.tv_lex.specs.Token.{HaveOneMeaning}
 use Rattle.tv_lex.specs.declared.token.LexError.{LexError}
 use Rattle.tv_lex.specs.declared.token.Token.{Token}
 use Rattle.tv_listing.specs.declared.analysis.Analysis.{Analysis}
@@ -52,6 +51,9 @@ use Rattle.tv_explain.specs.Due.{KeepsReached, LacksEdge, LacksMessage}
 use Rattle.tv_explain.specs.Due.{LacksStructure, ListsSuch, LosesSome, LosesSuch, without_details}
 use Rattle.tv_explain.specs.Faults.{ending_with}
 use Rattle.tv_explain.specs.Meaning.{FilesMean, IsRefused, drawn_form}
+use Rattle.tv_explain.specs.Sources.{IsTakenText}
+use Rattle.tv_explain.proofs.Sources.{one_text, taken_file}
+use Rattle.tv_updates.specs.Meaning.{MeansUpdated}
 use Rattle.tv_explain.specs.declared.fault.Answer.{Answer}
 use Rattle.tv_explain.specs.declared.fault.Ending.{Ending}
 use Rattle.tv_explain.specs.declared.fault.Ending.TheVariants.{As, Lost, Absent, NotWritten as Unwritable}
@@ -62,7 +64,6 @@ use Rattle.tv_explain.specs.declared.fault.Sought.TheVariants as sought
 use Rattle.tv_explain.specs.declared.fault.Unwritten.{Unwritten}
 use Rattle.tv_explain.specs.declared.fault.Unwritten.TheVariants as unwritten
 use Rattle.tv_explain.specs.declared.inputs.Inputs.{Inputs}
-use Rattle.tv_texts.specs.Sources.{IsSourceText}
 use Rattle.tv_texts.specs.Structures.{IsStructuresText}
 use Rattle.tv_texts.specs.declared.source.SourceText.{SourceText}
 use Rattle.tv_texts.specs.declared.structures.StructuresText.{StructuresText}
@@ -144,8 +145,8 @@ structures_read told program structures AreSuch h =
     (h.0, h.1, (h.2.0.structures, structures_file told structures h.0 h.2.0 h.2.1))
 
 module _ (told : Option Held)
-    (source_read : (name : List ℕ) (read : SourceText) → IsSourceText told name read
-    → IsSourceFile told name (Ok read.program))
+    (source_read : (updates : Bool) (name : List ℕ) (read : SourceText) → IsTakenText told updates name read
+    → (p : Program) × IsSourceFile told name (Ok p))
   where
     answer_read : (command : CommandForm) (a : Answer) → IsAnswer told command a → AreRead told command
     answer_read (Shows program report) a h = (h.0.0, h.0.1, (h.0.2.0, h.0.2.1))
@@ -154,7 +155,7 @@ module _ (told : Option Held)
     answer_read (TellsMessage of edge number) a h = (h.0.0, h.0.1)
     answer_read (TellsStructure of node index) a h = (h.0.0, h.0.1)
     answer_read (TellsLosses of how) a h = (h.0, h.1)
-    answer_read (Compiles source) a h = (h.0.0.program, source_read source h.0.0 h.0.1)
+    answer_read (Compiles source updates) a h = source_read updates source h.0.0 h.0.1
     answer_read (TakesStep of edge) a h = (h.0.0, h.0.1)
     answer_read (TellsPlan program mode delta) a h =
         let x = read_of told delta program h.0.0 h.0.1 in (x.0, x.1)
@@ -167,7 +168,7 @@ module _ (told : Option Held)
     done_read (TellsMessage of edge number) h = (h.0, h.1)
     done_read (TellsStructure of node index) h = (h.0, h.1)
     done_read (TellsLosses of how) h = (h.0, h.1)
-    done_read (Compiles source) h = (h.0.program, source_read source h.0 h.1)
+    done_read (Compiles source updates) h = source_read updates source h.0 h.1
     done_read (TakesStep of edge) h = (h.0, h.1)
     done_read (TellsPlan program mode delta) h = h
     done_read (TellsCounts of) h = (h.0, h.1)
@@ -185,13 +186,13 @@ module _ (told : Option Held)
 
     unwritten_read : (command : CommandForm) (why : Unwritten) → IsUnwritten told command why
         → AreRead told command
-    unwritten_read (Compiles source) why h = (h.0.program, source_read source h.0 h.1)
+    unwritten_read (Compiles source updates) why h = source_read updates source h.0 h.1
     unwritten_read (Completes program structures) why h = structures_read told program structures _ h
     unwritten_read other why h = absurd h
 
     unwritable_read : (command : CommandForm) (why : Unwritten) → CannotWrite told command why
         → AreRead told command
-    unwritable_read (Compiles source) why h = (h.0.program, source_read source h.0 h.1)
+    unwritable_read (Compiles source updates) why h = source_read updates source h.0 h.1
     unwritable_read (Completes program structures) why h = h.0
     unwritable_read other why h = absurd h
 
@@ -404,10 +405,10 @@ module _ (told : Option Held)
     → GiveOne {A = List StructureForm} ◌≡◌ (IsInitialFile told name p) (IsInitialFile told name q))
     (reports : (name : List ℕ) (p q : Program) → SameProgram p q
     → GiveOne {A = Analysis} ◌≡◌ (IsReportFile told name p) (IsReportFile told name q))
-    (source_read : (name : List ℕ) (read : SourceText) → IsSourceText told name read
-    → IsSourceFile told name (Ok read.program))
-    (texts : (name : List ℕ) (a b : SourceText) → IsSourceText told name a → IsSourceText told name b
-    → (compiled_lines a ≡ compiled_lines b) × SameProgram a.program b.program)
+    (source_read : (updates : Bool) (name : List ℕ) (read : SourceText) → IsTakenText told updates name read
+    → (p : Program) × IsSourceFile told name (Ok p))
+    (texts : (updates : Bool) (name : List ℕ) (a b : SourceText) → IsTakenText told updates name a
+    → IsTakenText told updates name b → (compiled_lines a ≡ compiled_lines b) × SameProgram a.program b.program)
   where
     same_inputs : (of : AnalyzedForm) (a b : Inputs) → FilesMean told of a → FilesMean told of b → SameInputs a b
     same_inputs of a b h k = one_inputs told programs sources initials reports of a b h k
@@ -428,7 +429,7 @@ module _ (told : Option Held)
     done_answer (ListsEdges program) a h can = h.1
     done_answer (TellsMessage of edge number) a h can = h.1
     done_answer (TellsStructure of node index) a h can = h.1
-    done_answer (Compiles source) a h can = h.1
+    done_answer (Compiles source updates) a h can = h.1
     done_answer (TakesStep of edge) a h can = h.1
     done_answer (TellsPlan program mode delta) a h can = h.1
     done_answer (TellsCounts of) a h can = h.1
@@ -469,8 +470,8 @@ module _ (told : Option Held)
 
     answer_written : (command : CommandForm) (a : Answer) (why : Unwritten) → IsAnswer told command a
         → CannotWrite told command why → ⊥
-    answer_written (Compiles source) a why h lacking =
-        let both = texts source h.0.0 lacking.0 h.0.1 lacking.1 in
+    answer_written (Compiles source updates) a why h lacking =
+        let both = texts updates source h.0.0 lacking.0 h.0.1 lacking.1 in
         written_not h.0.0 lacking.0 why both.0 both.1 (can h.0.0 a.text.items h.0.2) lacking.2
       where
         can : (read : SourceText) (text : List ℕ) → IsCompiledText read text → CanBeWritten read
@@ -603,8 +604,8 @@ module _ (told : Option Held)
 
     unwritten_done : (command : CommandForm) (why : Unwritten) → IsUnwritten told command why
         → CanAnswer told command → ⊥
-    unwritten_done (Compiles source) why lacking can =
-        let both = texts source can.0 lacking.0 can.1 lacking.1 in
+    unwritten_done (Compiles source updates) why lacking can =
+        let both = texts updates source can.0 lacking.0 can.1 lacking.1 in
         written_not can.0 lacking.0 why both.0 both.1 can.2 lacking.2
     unwritten_done (Completes program structures) why lacking can =
         let read = lacking.2 in
@@ -613,19 +614,19 @@ module _ (told : Option Held)
 
     unwritten_some : (command : CommandForm) (why : Unwritten) → IsUnwritten told command why
         → LosesSome told command → ⊥
-    unwritten_some (Compiles source) why lacking some = some
+    unwritten_some (Compiles source updates) why lacking some = some
     unwritten_some (Completes program structures) why lacking some = some
     unwritten_some other why lacking some = lacking
 
     unwritten_absent : (command : CommandForm) (why : Unwritten) (what : Sought)
         → IsUnwritten told command why → IsAbsent told command what → ⊥
-    unwritten_absent (Compiles source) why what lacking lacks = lacks
+    unwritten_absent (Compiles source updates) why what lacking lacks = lacks
     unwritten_absent (Completes program structures) why what lacking lacks = lacks
     unwritten_absent other why what lacking lacks = lacking
 
     unwritable_such : (command : CommandForm) (why : Unwritten) (P : AnalyzedForm → Inputs → Type 0)
         → CannotWrite told command why → FilesMeanSuch told command P → ⊥
-    unwritable_such (Compiles source) why P lacking h = h
+    unwritable_such (Compiles source updates) why P lacking h = h
     unwritable_such (Completes program structures) why P lacking h = h
     unwritable_such other why P lacking h = lacking
 
@@ -792,12 +793,6 @@ call_view words told Lost h = inr h
 call_view words told (Absent what) h = inr h
 call_view words told (Unwritable why) h = inr h
 
--- a source program that is read
-source_file : (told : Option Held) (name : List ℕ) (read : SourceText) → IsSourceText told name read
-    → IsSourceFile told name (Ok read.program)
-source_file None name read h = tt
-source_file (Some held) name read h = (read.bytes.items, h.content, h.compiled.means)
-
 module _ (one : (words : List (List ℕ)) (a b : CommandForm) → Spells words a → Spells words b → a ≡ b)
     (reading : (text : List ℕ) (a b : Result (List Token) LexError) → Reads text a → Reads text b → a ≡ b)
     (programs : (text : List ℕ) → GiveOne SameProgram (MeansProgram text) (MeansProgram text))
@@ -806,27 +801,8 @@ module _ (one : (words : List (List ℕ)) (a b : CommandForm) → Spells words a
     → GiveOne ◌≡◌ (MeansInitial p text) (MeansInitial q text))
     (reports : (p q : Program) → SameProgram p q → (text : List ℕ)
     → GiveOne ◌≡◌ (MeansReport p text) (MeansReport q text))
+    (updated : HaveOneMeaning MeansUpdated)
   where
-    -- a name holds one source program, which has one text
-    one_text : (told : Option Held) (name : List ℕ) → IsSome told → (a b : SourceText) → IsSourceText told name a
-        → IsSourceText told name b → (compiled_lines a ≡ compiled_lines b) × SameProgram a.program b.program
-    one_text None name tells a b h k = absurd (let e = tells in cc)
-    one_text (Some held) name tells a b h k =
-        let bytes : a.bytes.items ≡ b.bytes.items
-        = same_Some a.bytes.items b.bytes.items (sym h.content ∙ k.content) in
-        let tokens : a.tokens.list.items ≡ b.tokens.list.items
-        = same_Ok a.tokens.list.items b.tokens.list.items
-        (reading a.bytes.items (Ok a.tokens.list.items) (Ok b.tokens.list.items) h.compiled.tokens
-        (subst (λ t. Reads t (Ok b.tokens.list.items)) (sym bytes) k.compiled.tokens)) in
-        let program : SameProgram a.program b.program
-        = sources a.bytes.items (Ok a.program) (Ok b.program) h.compiled.means
-        (subst (λ t. MeansSource t (Ok b.program)) (sym bytes) k.compiled.means) in
-        let lines : compiled_lines a ≡ compiled_lines b
-        = ap (λ text. written text a.tokens.list.items (program_of a.program)) bytes
-        ∙ ap (λ list. written b.bytes.items list (program_of a.program)) tokens
-        ∙ ap (λ form. written b.bytes.items b.tokens.list.items form) program in
-        (lines, program)
-
     module _ (told : Option Held) (tells : IsSome told) where
       program_files : (name : List ℕ) → GiveOne SameProgram (IsProgramFile told name) (IsProgramFile told name)
       program_files name a b h k = one_file programs told name tells a b h k
@@ -850,8 +826,8 @@ module _ (one : (words : List (List ℕ)) (a b : CommandForm) → Spells words a
           → without_details ending ≡ without_details due
       spelled_duly words ending due h calls =
           let same = one words h.0 calls.0 h.1 calls.1 in
-          command_duly told program_files source_files initial_files report_files (source_file told)
-          (λ name a b x y. one_text told name tells a b x y) calls.0 ending due
+          command_duly told program_files source_files initial_files report_files (taken_file told)
+          (λ updates name a b x y. one_text reading sources updated told updates name tells a b x y) calls.0 ending due
           (subst (λ c. EndView told c ending) same h.2) (due_view told calls.0 due calls.2.1)
 
       spelled_within : (words : List (List ℕ)) (ending : Ending)
@@ -872,8 +848,8 @@ module _ (one : (words : List (List ℕ)) (a b : CommandForm) → Spells words a
               unlimited false limit = limit
           limited command ending (inr (inl (r, k, e, is))) keeps limit = subst AtLimit e limit
           limited command ending (inr (inr (inl (is, h)))) keeps limit =
-              within_limits told program_files source_files initial_files report_files (source_file told)
-              (λ name a b x y. one_text told name tells a b x y) command h keeps
+              within_limits told program_files source_files initial_files report_files (taken_file told)
+              (λ updates name a b x y. one_text reading sources updated told updates name tells a b x y) command h keeps
           limited command ending (inr (inr (inr (inl (what, e, h))))) keeps limit = subst AtLimit e limit
           limited command ending (inr (inr (inr (inr (why, e, lacking))))) keeps limit = subst AtLimit e limit
 

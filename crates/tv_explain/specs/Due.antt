@@ -24,6 +24,7 @@ use Rattle.tv_work.specs.Reach.{AreMoreThan, IsReached}
 use Rattle.tv_explain.specs.Answers.{FilesMeanSuch, IsCompletionOf, IsUnwritten, compiled_lines}
 use Rattle.tv_explain.specs.Call.{Commands}
 use Rattle.tv_explain.specs.Meaning.{FilesMean, IsRefused, drawn_form}
+use Rattle.tv_explain.specs.Sources.{IsTakenText}
 use Rattle.tv_explain.specs.declared.fault.Ending.{Ending}
 use Rattle.tv_explain.specs.declared.fault.Ending.TheVariants.{As, Lost, Absent, NotWritten as Unwritable}
 use Rattle.tv_explain.specs.declared.fault.Sought.{Sought}
@@ -32,7 +33,6 @@ use Rattle.tv_explain.specs.declared.fault.Unwritten.{Unwritten}
 use Rattle.tv_explain.specs.declared.fault.Unwritten.TheVariants as unwritten
 use Rattle.tv_explain.specs.declared.inputs.Inputs.{Inputs}
 use Rattle.tv_explain_text.specs.Texts.{messages_at}
-use Rattle.tv_texts.specs.Sources.{IsSourceText}
 use Rattle.tv_texts.specs.Structures.{IsStructuresText}
 use Rattle.tv_texts.specs.declared.source.SourceText.{SourceText}
 use Rattle.tv_texts.specs.declared.structures.StructuresText.{StructuresText}
@@ -123,7 +123,8 @@ CanAnswer told (TellsStructure of node index) = (inputs : Inputs) × FilesMean t
     × ListsSuch of inputs node (λ structures. index < length structures)
 CanAnswer told (TellsLosses of how) = (inputs : Inputs) × FilesMean told of inputs
     × KeepsLosses of how inputs × LosesSuch of how inputs AreNone
-CanAnswer told (Compiles source) = (read : SourceText) × IsSourceText told source read × CanBeWritten read
+CanAnswer told (Compiles source updates) =
+    (read : SourceText) × IsTakenText told updates source read × CanBeWritten read
 CanAnswer told (TakesStep of edge) = (inputs : Inputs) × FilesMean told of inputs × KeepsEach edge inputs
     × (edge < length (drawn_form inputs).edges)
 CanAnswer told (TellsPlan program mode delta) = (p : Program) × IsProgramFile told program (Ok p)

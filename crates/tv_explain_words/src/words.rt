@@ -1,25 +1,37 @@
 //! The words after the program's name.
 
-ghost use Rattle.std.specs.Prelude.{◌≡◌, ◌++◌, ℕ, Bool, List, [], ◌∷◌, IfOk, IfSome, IfNone, OnOk, codes, string_bytes};
-ghost use Rattle.std.specs.Prelude.{if◌then◌else◌};
-ghost use Rattle.std.specs.Str.{bytes_eq};
-ghost use Rattle.tv_words.specs.Setup.{line_in, told_texts};
-ghost use Rattle.tv_words.specs.Words.{once, words_of};
+ghost use Rattle.std.specs.Prelude.{◌≡◌, ℕ, List, [], ◌∷◌, IfOk, IfSome, IfNone, codes};
+ghost use Rattle.tv_words.specs.Setup.{told_texts};
+ghost use Rattle.tv_words.specs.Words.{words_of};
 ghost use Rattle.tv_explain_words.specs.Words.{IsNumber, IsSaid, NoneSaid, Spells, SpellsNothing, SaidOf};
-ghost use Rattle.tv_explain_words.specs.Words.{AsksNothing, IsAsked, analyzed_of, form_of, is_own, others_of};
-ghost use Rattle.tv_explain_words.specs.Words.{HasOwn, flag_uses, with_flags};
-ghost use Rattle.tv_explain_words.specs.declared.words.LossOptions.{LossOptions};
+ghost use Rattle.tv_explain_words.specs.Words.{AsksNothing, IsAsked, analyzed_of, asked_in};
 
+use crate::asked::{
+    AskedLine, asked_command, has_no_other, has_no_style, is_bare, is_plain, loss_options,
+    style_of, told_asked, updates_of,
+};
 use itoa::Buffer;
 use std::alloc::{AllocError, Global};
 use tv_model::Mode;
-use tv_words::{
-    Line, command_line, four, has_no_flags, has_values, max_of, one, read_line, told_line, two,
-    updating,
-};
+use tv_words::{four, has_values, max_of, one, read_line, two, updating};
+
+/// How chains are told: with `unknown`, behind each step what became unknown.
+#[derive(Clone, Copy, Debug, PartialEq, Eq)]
+pub struct Style {
+    pub unknown: bool,
+}
+
+/// How losses are told: with `cases` each lost case, else of each edge the first; with `join` those of the joined
+/// analysis.
+#[derive(Clone, Copy, Debug, PartialEq, Eq)]
+pub struct LossOptions {
+    pub cases: bool,
+    pub join: bool,
+}
 
 /// What an analysis is asked, as for `tvla analyze`: its files by their names, how many structures may be
-/// listed, and the mode; with `delta` the differenced program is taken, and the mode is `Given`.
+/// listed, and the mode; with `delta` the differenced program is taken, and the mode is `Given`. `style` is
+/// that of chains.
 #[derive(Debug, Drop)]
 pub struct Analyzed {
     pub program: String,
@@ -27,14 +39,7 @@ pub struct Analyzed {
     pub max: u64,
     pub mode: Mode,
     pub delta: bool,
-}
-
-/// How losses are told: with `cases` each lost case, else of each edge the first; with `join` those of the joined
-/// analysis.
-#[derive(Clone, Copy, Debug)]
-pub struct LossOptions {
-    pub cases: bool,
-    pub join: bool,
+    pub style: Style,
 }
 
 /// What the words ask for. Files are told by their names, as the words give them.
@@ -67,9 +72,11 @@ pub enum Command {
         of: Analyzed,
         how: LossOptions,
     },
-    /// Writes the program that a source program is compiled to.
+    /// Writes the program that a source program is compiled to; with `updates` the one that updates what
+    /// variables reach.
     Compiled {
         source: String,
+        updates: bool,
     },
     /// Writes one abstract step of each structure of a file along the edge of this number, stage by stage.
     /// The file stands in the place of the initial structures, and `max` is that of words that don't say it.
@@ -124,41 +131,45 @@ fn three<'a>(operands: Option<&[&'a str]>) -> Option<(&'a str, &'a str, &'a str)
 /// The analysis of these files that the line's options ask for.
 fn asked(
     alloc: Global,
-    line: &Line<'_, '_>,
+    line: &AskedLine<'_, '_>,
     program: &str,
     initial: &str,
 ) -> Result<Option<Analyzed>, AllocError>
     ensures some { IfOk result (λ found. IfSome found
-        (λ a. IsAsked program.now initial.now (line_in line.now) (analyzed_of a))) }
-    ensures none { IfOk result (λ found. IfNone found (AsksNothing (line_in line.now))) }
+        (λ a. IsAsked program.now initial.now (asked_in line.now) (analyzed_of a))) }
+    ensures none { IfOk result (λ found. IfNone found (AsksNothing (asked_in line.now))) }
 {
-    let Some((mode, delta)) = updating(line.recompute, line.delta) else {
+    let Some((mode, delta)) = updating(line.line.recompute, line.line.delta) else {
         return Ok(None);
     };
-    let Some(max) = max_of(line.max) else {
+    let Some(max) = max_of(line.line.max) else {
         return Ok(None);
     };
-    if line.maps != 0 {
+    if line.line.maps != 0 {
         return Ok(None);
     }
+    let Some(style) = style_of(line) else {
+        return Ok(None);
+    };
     Ok(Some(Analyzed {
         program: String::from_str(alloc, program)?,
         initial: String::from_str(alloc, initial)?,
         max,
         mode,
         delta,
+        style,
     }))
 }
 
 /// The command of the name `show` that the line says.
-fn show(alloc: Global, line: &Line<'_, '_>) -> Result<Option<Command>, AllocError>
-    ensures some { IfOk result (λ found. IfSome found (SaidOf (IsSaid (codes "show") (line_in line.now)))) }
-    ensures none { IfOk result (λ found. IfNone found (NoneSaid (codes "show") (line_in line.now))) }
+fn show(alloc: Global, line: &AskedLine<'_, '_>) -> Result<Option<Command>, AllocError>
+    ensures some { IfOk result (λ found. IfSome found (SaidOf (IsSaid (codes "show") (asked_in line.now)))) }
+    ensures none { IfOk result (λ found. IfNone found (NoneSaid (codes "show") (asked_in line.now))) }
 {
-    let Some((program, report)) = two(line.operands) else {
+    let Some((program, report)) = two(line.line.operands) else {
         return Ok(None);
     };
-    if !has_no_flags(line) || has_values(line.max) {
+    if !is_plain(line) {
         return Ok(None);
     }
     Ok(Some(Command::Show {
@@ -168,14 +179,14 @@ fn show(alloc: Global, line: &Line<'_, '_>) -> Result<Option<Command>, AllocErro
 }
 
 /// The command of the name `edges` that the line says.
-fn edges(alloc: Global, line: &Line<'_, '_>) -> Result<Option<Command>, AllocError>
-    ensures some { IfOk result (λ found. IfSome found (SaidOf (IsSaid (codes "edges") (line_in line.now)))) }
-    ensures none { IfOk result (λ found. IfNone found (NoneSaid (codes "edges") (line_in line.now))) }
+fn edges(alloc: Global, line: &AskedLine<'_, '_>) -> Result<Option<Command>, AllocError>
+    ensures some { IfOk result (λ found. IfSome found (SaidOf (IsSaid (codes "edges") (asked_in line.now)))) }
+    ensures none { IfOk result (λ found. IfNone found (NoneSaid (codes "edges") (asked_in line.now))) }
 {
-    let Some(program) = one(line.operands) else {
+    let Some(program) = one(line.line.operands) else {
         return Ok(None);
     };
-    if !has_no_flags(line) || has_values(line.max) {
+    if !is_plain(line) {
         return Ok(None);
     }
     Ok(Some(Command::Edges {
@@ -184,14 +195,17 @@ fn edges(alloc: Global, line: &Line<'_, '_>) -> Result<Option<Command>, AllocErr
 }
 
 /// The command of the name `message` that the line says.
-fn message(alloc: Global, line: &Line<'_, '_>) -> Result<Option<Command>, AllocError>
+fn message(alloc: Global, line: &AskedLine<'_, '_>) -> Result<Option<Command>, AllocError>
     ensures some { IfOk result
-        (λ found. IfSome found (SaidOf (IsSaid (codes "message") (line_in line.now)))) }
-    ensures none { IfOk result (λ found. IfNone found (NoneSaid (codes "message") (line_in line.now))) }
+        (λ found. IfSome found (SaidOf (IsSaid (codes "message") (asked_in line.now)))) }
+    ensures none { IfOk result (λ found. IfNone found (NoneSaid (codes "message") (asked_in line.now))) }
 {
-    let Some((program, initial, edge, message)) = four(line.operands) else {
+    let Some((program, initial, edge, message)) = four(line.line.operands) else {
         return Ok(None);
     };
+    if !has_no_other(line) {
+        return Ok(None);
+    }
     let Some(edge) = number(edge) else {
         return Ok(None);
     };
@@ -205,14 +219,17 @@ fn message(alloc: Global, line: &Line<'_, '_>) -> Result<Option<Command>, AllocE
 }
 
 /// The command of the name `structure` that the line says.
-fn structure(alloc: Global, line: &Line<'_, '_>) -> Result<Option<Command>, AllocError>
+fn structure(alloc: Global, line: &AskedLine<'_, '_>) -> Result<Option<Command>, AllocError>
     ensures some { IfOk result
-        (λ found. IfSome found (SaidOf (IsSaid (codes "structure") (line_in line.now)))) }
-    ensures none { IfOk result (λ found. IfNone found (NoneSaid (codes "structure") (line_in line.now))) }
+        (λ found. IfSome found (SaidOf (IsSaid (codes "structure") (asked_in line.now)))) }
+    ensures none { IfOk result (λ found. IfNone found (NoneSaid (codes "structure") (asked_in line.now))) }
 {
-    let Some((program, initial, node, index)) = four(line.operands) else {
+    let Some((program, initial, node, index)) = four(line.line.operands) else {
         return Ok(None);
     };
+    if !has_no_other(line) {
+        return Ok(None);
+    }
     let Some(index) = number(index) else {
         return Ok(None);
     };
@@ -227,52 +244,58 @@ fn structure(alloc: Global, line: &Line<'_, '_>) -> Result<Option<Command>, Allo
 }
 
 /// The command of the name `losses` that the line says.
-fn losses(alloc: Global, line: &Line<'_, '_>) -> Result<Option<Command>, AllocError>
-    ensures some { IfOk result (λ found. IfSome found (SaidOf (IsSaid (codes "losses") (line_in line.now)))) }
-    ensures none { IfOk result (λ found. IfNone found (NoneSaid (codes "losses") (line_in line.now))) }
+fn losses(alloc: Global, line: &AskedLine<'_, '_>) -> Result<Option<Command>, AllocError>
+    ensures some { IfOk result (λ found. IfSome found (SaidOf (IsSaid (codes "losses") (asked_in line.now)))) }
+    ensures none { IfOk result (λ found. IfNone found (NoneSaid (codes "losses") (asked_in line.now))) }
 {
-    let Some((program, initial)) = two(line.operands) else {
+    let Some((program, initial)) = two(line.line.operands) else {
         return Ok(None);
     };
+    let Some(how) = loss_options(line) else {
+        return Ok(None);
+    };
+    if !has_no_style(line) || line.updates != 0 {
+        return Ok(None);
+    }
     let Some(of) = asked(alloc, line, program, initial)? else {
         return Ok(None);
-    };
-    let how = LossOptions {
-        cases: false,
-        join: false,
     };
     Ok(Some(Command::Losses { of, how }))
 }
 
 /// The command of the name `compiled` that the line says.
-fn compiled(alloc: Global, line: &Line<'_, '_>) -> Result<Option<Command>, AllocError>
+fn compiled(alloc: Global, line: &AskedLine<'_, '_>) -> Result<Option<Command>, AllocError>
     ensures some { IfOk result
-        (λ found. IfSome found (SaidOf (IsSaid (codes "compiled") (line_in line.now)))) }
-    ensures none { IfOk result (λ found. IfNone found (NoneSaid (codes "compiled") (line_in line.now))) }
+        (λ found. IfSome found (SaidOf (IsSaid (codes "compiled") (asked_in line.now)))) }
+    ensures none { IfOk result (λ found. IfNone found (NoneSaid (codes "compiled") (asked_in line.now))) }
 {
-    let Some(source) = one(line.operands) else {
+    let Some(source) = one(line.line.operands) else {
         return Ok(None);
     };
-    if !has_no_flags(line) || has_values(line.max) {
+    let Some(updates) = updates_of(line) else {
+        return Ok(None);
+    };
+    if !is_bare(line) || !has_no_style(line) || line.cases != 0 || line.join != 0 {
         return Ok(None);
     }
     Ok(Some(Command::Compiled {
         source: String::from_str(alloc, source)?,
+        updates,
     }))
 }
 
 /// The command of the name `step` that the line says.
-fn step(alloc: Global, line: &Line<'_, '_>) -> Result<Option<Command>, AllocError>
-    ensures some { IfOk result (λ found. IfSome found (SaidOf (IsSaid (codes "step") (line_in line.now)))) }
-    ensures none { IfOk result (λ found. IfNone found (NoneSaid (codes "step") (line_in line.now))) }
+fn step(alloc: Global, line: &AskedLine<'_, '_>) -> Result<Option<Command>, AllocError>
+    ensures some { IfOk result (λ found. IfSome found (SaidOf (IsSaid (codes "step") (asked_in line.now)))) }
+    ensures none { IfOk result (λ found. IfNone found (NoneSaid (codes "step") (asked_in line.now))) }
 {
-    let Some((program, structures, edge)) = three(line.operands) else {
+    let Some((program, structures, edge)) = three(line.line.operands) else {
         return Ok(None);
     };
     let Some(edge) = number(edge) else {
         return Ok(None);
     };
-    if has_values(line.max) {
+    if has_values(line.line.max) || !has_no_style(line) || !has_no_other(line) {
         return Ok(None);
     }
     let Some(of) = asked(alloc, line, program, structures)? else {
@@ -282,17 +305,21 @@ fn step(alloc: Global, line: &Line<'_, '_>) -> Result<Option<Command>, AllocErro
 }
 
 /// The command of the name `plan` that the line says.
-fn plan(alloc: Global, line: &Line<'_, '_>) -> Result<Option<Command>, AllocError>
-    ensures some { IfOk result (λ found. IfSome found (SaidOf (IsSaid (codes "plan") (line_in line.now)))) }
-    ensures none { IfOk result (λ found. IfNone found (NoneSaid (codes "plan") (line_in line.now))) }
+fn plan(alloc: Global, line: &AskedLine<'_, '_>) -> Result<Option<Command>, AllocError>
+    ensures some { IfOk result (λ found. IfSome found (SaidOf (IsSaid (codes "plan") (asked_in line.now)))) }
+    ensures none { IfOk result (λ found. IfNone found (NoneSaid (codes "plan") (asked_in line.now))) }
 {
-    let Some(program) = one(line.operands) else {
+    let Some(program) = one(line.line.operands) else {
         return Ok(None);
     };
-    let Some((mode, delta)) = updating(line.recompute, line.delta) else {
+    let Some((mode, delta)) = updating(line.line.recompute, line.line.delta) else {
         return Ok(None);
     };
-    if line.maps != 0 || has_values(line.max) {
+    if line.line.maps != 0
+        || has_values(line.line.max)
+        || !has_no_style(line)
+        || !has_no_other(line)
+    {
         return Ok(None);
     }
     Ok(Some(Command::Plan {
@@ -303,13 +330,16 @@ fn plan(alloc: Global, line: &Line<'_, '_>) -> Result<Option<Command>, AllocErro
 }
 
 /// The command of the name `counts` that the line says.
-fn counts(alloc: Global, line: &Line<'_, '_>) -> Result<Option<Command>, AllocError>
-    ensures some { IfOk result (λ found. IfSome found (SaidOf (IsSaid (codes "counts") (line_in line.now)))) }
-    ensures none { IfOk result (λ found. IfNone found (NoneSaid (codes "counts") (line_in line.now))) }
+fn counts(alloc: Global, line: &AskedLine<'_, '_>) -> Result<Option<Command>, AllocError>
+    ensures some { IfOk result (λ found. IfSome found (SaidOf (IsSaid (codes "counts") (asked_in line.now)))) }
+    ensures none { IfOk result (λ found. IfNone found (NoneSaid (codes "counts") (asked_in line.now))) }
 {
-    let Some((program, initial)) = two(line.operands) else {
+    let Some((program, initial)) = two(line.line.operands) else {
         return Ok(None);
     };
+    if !has_no_style(line) || !has_no_other(line) {
+        return Ok(None);
+    }
     match asked(alloc, line, program, initial)? {
         Some(of) => Ok(Some(Command::Counts { of })),
         None => Ok(None),
@@ -317,15 +347,15 @@ fn counts(alloc: Global, line: &Line<'_, '_>) -> Result<Option<Command>, AllocEr
 }
 
 /// The command of the name `complete` that the line says.
-fn complete(alloc: Global, line: &Line<'_, '_>) -> Result<Option<Command>, AllocError>
+fn complete(alloc: Global, line: &AskedLine<'_, '_>) -> Result<Option<Command>, AllocError>
     ensures some { IfOk result
-        (λ found. IfSome found (SaidOf (IsSaid (codes "complete") (line_in line.now)))) }
-    ensures none { IfOk result (λ found. IfNone found (NoneSaid (codes "complete") (line_in line.now))) }
+        (λ found. IfSome found (SaidOf (IsSaid (codes "complete") (asked_in line.now)))) }
+    ensures none { IfOk result (λ found. IfNone found (NoneSaid (codes "complete") (asked_in line.now))) }
 {
-    let Some((program, structures)) = two(line.operands) else {
+    let Some((program, structures)) = two(line.line.operands) else {
         return Ok(None);
     };
-    if !has_no_flags(line) || has_values(line.max) {
+    if !is_plain(line) {
         return Ok(None);
     }
     Ok(Some(Command::Complete {
@@ -335,9 +365,9 @@ fn complete(alloc: Global, line: &Line<'_, '_>) -> Result<Option<Command>, Alloc
 }
 
 /// The command of that name that the line says.
-fn said(alloc: Global, name: &str, line: &Line<'_, '_>) -> Result<Option<Command>, AllocError>
-    ensures some { IfOk result (λ found. IfSome found (SaidOf (IsSaid name.now (line_in line.now)))) }
-    ensures none { IfOk result (λ found. IfNone found (NoneSaid name.now (line_in line.now))) }
+fn said(alloc: Global, name: &str, line: &AskedLine<'_, '_>) -> Result<Option<Command>, AllocError>
+    ensures some { IfOk result (λ found. IfSome found (SaidOf (IsSaid name.now (asked_in line.now)))) }
+    ensures none { IfOk result (λ found. IfNone found (NoneSaid name.now (asked_in line.now))) }
 {
     match name {
         "show" => show(alloc, line),
@@ -354,87 +384,6 @@ fn said(alloc: Global, name: &str, line: &Line<'_, '_>) -> Result<Option<Command
     }
 }
 
-/// Whether the word is an own flag of the command of this name.
-fn is_own(name: &str, word: &str) -> bool
-    ensures { result ≡ is_own name.now word.now }
-{
-    name == "losses" && (word == "--cases" || word == "--join")
-}
-
-/// Puts the word behind the others, unless it is to be passed over.
-fn push_unless(others: &mut Vec<String>, passed: bool, word: String) -> Result<(), AllocError>
-    ensures { OnOk result (words_of others.new.items
-        ≡ (if passed then words_of others.old.items else words_of others.old.items ++ string_bytes word ∷ [])) }
-{
-    if passed {
-        return Ok(());
-    }
-    Ok(others.push(word)?)
-}
-
-/// The words but for own flags of the command of this name.
-fn others_of(alloc: Global, name: &str, words: &[String]) -> Result<Vec<String>, AllocError>
-    ensures { IfOk result (λ others. words_of others.items ≡ others_of name.now (words_of words.now)) }
-{
-    let mut others = Vec::new(alloc);
-    for word in words {
-        let own = is_own(name, word.as_str());
-        push_unless(&mut others, own, String::from_str(alloc, word.as_str())?)?;
-    }
-    Ok(others)
-}
-
-/// 1 where the word is this flag, else 0.
-fn use_of(flag: &str, word: &str) -> usize
-    ensures { result ≡ (if bytes_eq word.now flag.now then 1 else 0) }
-{
-    if word == flag {
-        return 1;
-    }
-    0
-}
-
-/// How often the flag stands.
-fn flag_uses(flag: &str, words: &[String]) -> usize
-    ensures { result ≡ flag_uses flag.now (words_of words.now) }
-{
-    let mut uses = 0;
-    for i in 0..words.len() {
-        uses += use_of(flag, words[i].as_str());
-    }
-    uses
-}
-
-/// Whether the flag stands, where it stands once at most.
-fn flag_in(flag: &str, words: &[String]) -> Option<bool>
-    ensures some { IfSome result (λ on. flag_uses flag.now (words_of words.now) ≡ once on) }
-    ensures none { IfNone result ((on : Bool) → ¬ (flag_uses flag.now (words_of words.now) ≡ once on)) }
-{
-    match flag_uses(flag, words) {
-        0 => Some(false),
-        1 => Some(true),
-        _ => None,
-    }
-}
-
-/// The command with those of its own flags that stand among the words.
-fn flagged(command: Command, words: &[String]) -> Option<Command>
-    ensures some { IfSome result (λ found. (how : LossOptions)
-        × (form_of found ≡ with_flags how (form_of command)) × HasOwn (words_of words.now) (form_of found)) }
-    ensures none { IfNone result ((how : LossOptions)
-        → ¬ HasOwn (words_of words.now) (with_flags how (form_of command))) }
-{
-    match command {
-        Command::Losses { of, .. } => {
-            let cases = flag_in("--cases", words)?;
-            let join = flag_in("--join", words)?;
-            let how = LossOptions { cases, join };
-            Some(Command::Losses { of, how })
-        }
-        other => Some(other),
-    }
-}
-
 /// The command that the words spell, and none exactly where they spell none.
 ///
 /// # Errors
@@ -446,12 +395,8 @@ pub fn read_words(alloc: Global, words: &[String]) -> Result<Option<Command>, Al
     let Some((name, behind)) = words.split_first() else {
         return Ok(None);
     };
-    let others = others_of(alloc, name.as_str(), behind)?;
-    let Some(matches) = read_line(command_line(alloc)?, others.as_slice())? else {
+    let Some(matches) = read_line(asked_command(alloc)?, behind)? else {
         return Ok(None);
     };
-    let Some(command) = said(alloc, name.as_str(), &told_line(&matches))? else {
-        return Ok(None);
-    };
-    Ok(flagged(command, behind))
+    said(alloc, name.as_str(), &told_asked(&matches))
 }

@@ -38,6 +38,12 @@ compiled
 compiled s s
 compiled s --delta
 compiled s --max-structures=5
+compiled --updates
+compiled s --updates --updates
+compiled s --updates=1
+compiled -- --updates
+edges p --updates
+plan p --updates
 step p i
 step p i 0 0
 step p i L0
@@ -51,7 +57,12 @@ counts p i 0
 counts p i --max-structures=0
 complete p
 complete p i i
-complete p i --delta";
+complete p i --delta
+message --unknown --unknown p i 3 0
+losses --unknown p i
+counts --unknown p i
+step --unknown p i 0
+edges --unknown p";
 
 /// Words that name what isn't there, and what is told of them.
 const ABSENT: &str = "message p i 4 0;no such edge
