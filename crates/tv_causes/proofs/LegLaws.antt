@@ -1,11 +1,11 @@
 -- The steps of a trail, one after the other.
-use Rattle.std.proofs.Common.{ℕ, zero, suc, ◌≡◌, ◌<◌, ◌∙◌, ◌+◌, List, [], ◌∷◌, ◌++◌, Some, None, Option}
+use Rattle.std.proofs.Common.{ℕ, zero, suc, ◌≡◌, ◌<◌, ◌≤◌, ◌∙◌, ◌+◌, ◌-◌, List, [], ◌∷◌, ◌++◌, Some, None, Option}
 use Rattle.std.proofs.Common.{add-one, ap, append-nil, append_assoc, arith, length, refl, subst, sym, take}
 use Rattle.std.proofs.Math.Seq.{take-length}
-use Rattle.std.specs.List.{AllZip}
+use Rattle.std.specs.List.{AllZip, slice_index_or}
 use Rattle.std.specs.Prelude.{All, Any, Contains, option_map, slice_get}
 use Rattle.std.proofs.lemmas.List.Elements.{All-cons, All-contains, All-head, All-nil, All-tail}
-use Rattle.std.proofs.lemmas.Option.{same_Some, slice_get_within}
+use Rattle.std.proofs.lemmas.Option.{same_Some, slice_get-get_or, slice_get_within}
 use Rattle.tv_lemmas.proofs.Zips.{zip_push}
 use Rattle.tv_model.specs.Program.{ProgramForm, program_of}
 use Rattle.tv_model.specs.declared.program.Program.{Program}
@@ -44,6 +44,16 @@ leg-next s (l ∷ ls) zero b link at next =
     ∙ ap (λ (x : Link). Some (leg_at x.structure link)) (same_Some l b at)
 leg-next s (l ∷ ls) (suc n) b link at next = leg-next l.structure ls n b link at next
 
+pub leg-behind : (s : StructureForm) (links : List Link) (number : ℕ) (d link : Link) → 1 ≤ number
+    → number < length links → slice_get links number ≡ Some link
+    → slice_get (legs_from s links) number ≡ Some (leg_at (slice_index_or links (number - 1) d).structure link)
+leg-behind s links zero d link some within at = absurd (omega (arith, some))
+leg-behind s links (suc n) d link some within at =
+    let same : n ≡ suc n - 1 = omega arith in
+    subst (λ k. slice_get (legs_from s links) (suc n) ≡ Some (leg_at (slice_index_or links k d).structure link)) same
+    (leg-next s links n (slice_index_or links n d) link
+    (slice_get-get_or links n d (omega (arith, within))) at)
+
 pub length-legs : (s : StructureForm) (links : List Link) → length (legs_from s links) ≡ length links
 length-legs s [] = refl
 length-legs s (l ∷ ls) = ap suc (length-legs l.structure ls)
@@ -68,7 +78,7 @@ legs_more R p heads (x ∷ xs) (y ∷ ys) zip leg step =
 
 -- taking one more of a list
 take-more : {X : Type 0} (xs : List X) (i : ℕ) (x : X) → slice_get xs i ≡ Some x → take (i + 1) xs ≡ take i xs ++ x ∷ []
-take-more xs i x at = rw add-one (by xs i at)
+take-more {X = X} xs i x at = rw add-one (by xs i at)
   where
     by : (ys : List X) (k : ℕ) → slice_get ys k ≡ Some x → take (suc k) ys ≡ take k ys ++ x ∷ []
     by [] k e = cc
