@@ -1,13 +1,17 @@
 mod Alike
 mod Begins
 mod Causes
+mod Chains
 mod Duly
 mod EdgeSteps
 mod EdgesDrawn
 mod EdgesKept
 mod EdgesWired
 mod Endings
+mod OneText
 mod Questions
+mod Reports
 mod Silence
+mod Sources
 mod Steps
 mod Trees

@@ -1,5 +1,7 @@
 //! What is asked of an analysis, or of its initial structures.
 
+use tv_explain_words::LossOptions;
+
 /// A question on the files of an analysis.
 #[derive(Clone, Copy)]
 pub enum Question<'a> {
@@ -8,7 +10,7 @@ pub enum Question<'a> {
     /// How the structure at this place of the node of this name comes about.
     Structure { node: &'a str, index: u32 },
     /// What the analysis loses.
-    Losses,
+    Losses { how: LossOptions },
     /// What the step of each initial structure along the edge makes of it, stage by stage.
     Step { edge: u32 },
     /// How many structures are listed at each node.

@@ -27,6 +27,10 @@ structure p i L0 first
 losses p
 losses p i 0
 losses p i --maps
+losses p i --cases --cases
+losses p i --join --cases --join
+counts p i --join
+counts p i --cases
 losses p i --delta --recompute
 losses p i --max-structures=0
 compile s
@@ -34,6 +38,11 @@ compiled
 compiled s s
 compiled s --delta
 compiled s --max-structures=5
+compiled --updates
+compiled s --updates --updates
+compiled s --updates=1
+edges p --updates
+plan p --updates
 step p i
 step p i 0 0
 step p i L0
@@ -47,7 +56,12 @@ counts p i 0
 counts p i --max-structures=0
 complete p
 complete p i i
-complete p i --delta";
+complete p i --delta
+message --unknown --unknown p i 3 0
+losses --unknown p i
+counts --unknown p i
+step --unknown p i 0
+edges --unknown p";
 
 /// Words that name what isn't there, and what is told of them.
 const ABSENT: &str = "message p i 4 0;no such edge
