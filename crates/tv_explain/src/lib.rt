@@ -38,10 +38,11 @@ use tv_updates::one_meaning;
 /// Does all that the program does: `words` are the words after its name.
 ///
 /// The work is done in this order: the words are read; PROGRAM is gathered and understood, or for `compiled`
-/// SOURCE is read and compiled, with updates or without; for `show` REPORT is read and understood, for `message`, `structure`,
-/// `losses` and `counts` INITIAL, for `step` and `complete` STRUCTURES; what the words name is looked for,
-/// and the analysis or the steps run; the text is put together and given to `out` whole. The first fault ends
-/// the call, and its text is given to `err`. Where the text tells of a loss the call ends as `Lost`.
+/// SOURCE is read and compiled, with updates or without; for `show` REPORT is read and understood, for
+/// `message`, `structure`, `losses` and `counts` INITIAL, for `step` and `complete` STRUCTURES; what the
+/// words name is looked for, and the analysis or the steps run; the text is put together and given to `out`
+/// whole. The first fault ends the call, and its text is given to `err`. Where the text tells of a loss the
+/// call ends as `Lost`.
 pub fn explain<F: Files, O: Sink, E: Sink>(
     alloc: Global,
     words: &[String],
