@@ -120,7 +120,13 @@ pub fn caused_text(
 {
     let mut stager = Stager::new(alloc, program, mode)?;
     let mut out = Vec::new(alloc);
-    append_opening(alloc, &mut out, &program.vocab, trail.initial, &trail.opening)?;
+    append_opening(
+        alloc,
+        &mut out,
+        &program.vocab,
+        trail.initial,
+        &trail.opening,
+    )?;
     let x = Writing {
         alloc,
         program,

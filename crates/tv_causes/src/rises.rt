@@ -48,11 +48,7 @@ fn append_rise(
 }
 
 /// Appends a line for each predicate that is unknown at more tuples in the second structure.
-fn append_rises(
-    out: &mut Vec<u8>,
-    vocab: &Vocab,
-    change: &Change<'_>,
-) -> Result<(), AllocError>
+fn append_rises(out: &mut Vec<u8>, vocab: &Vocab, change: &Change<'_>) -> Result<(), AllocError>
     requires before { IsOver vocab.now change.now.before.now }
     requires after { IsOver vocab.now change.now.after.now }
     requires count { length vocab.now.preds ≤ 512 }

@@ -55,11 +55,7 @@ fn given_way<'a>(t: &Structure, at_hand: &'a Structure, given: &'a [Given]) -> O
 }
 
 /// The first way to the structure for one of these choices of individuals.
-fn pick_way<'a>(
-    t: &Structure,
-    at_hand: &'a Structure,
-    picks: &'a [PickedUpdate],
-) -> Option<Way<'a>>
+fn pick_way<'a>(t: &Structure, at_hand: &'a Structure, picks: &'a [PickedUpdate]) -> Option<Way<'a>>
     ensures way { told_way result ≡ first_some (pick_way t.now at_hand.now) picks.now }
     ensures over { (vocab : Vocab) → IsOver vocab at_hand.now → All (IsPickOver vocab) picks.now
         → IfSome result (IsWayOver vocab) }

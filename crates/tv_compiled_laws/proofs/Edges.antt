@@ -45,9 +45,9 @@ module _ (s : SourceText) (p : SourceForm) where
       (map (λ a. a.action) others) h k)
 
   mutual
+    unfolding statement_meant block_meant
     statement_of : (x : StatementText) (stmt : Stmt) (k behind : ℕ) → statement_meant s.variables s.fields x ≡ Ok stmt
         → AreOf (edge_statements x) (arcs p k stmt behind)
-    unfolding statement_meant
     statement_of (XAssign a) stmt k behind h =
         let b = went_on (assign_meant s.variables s.fields a) (λ it. Ok (SAssign it)) stmt h in
         let same : SAssign b.0 ≡ stmt = cc (b.2) in
@@ -76,7 +76,6 @@ module _ (s : SourceText) (p : SourceForm) where
 
     block_of : (xs : BlockText) (stmts : Stmts) (k behind : ℕ) → block_meant s.variables s.fields xs ≡ Ok stmts
         → AreOf (block_statements xs) (block_arcs p k stmts behind)
-    unfolding block_meant
     block_of no_statement stmts k behind h =
         let same : no_stmts ≡ stmts = cc in
         subst (λ it. AreOf [] (block_arcs p k it behind)) same tt

@@ -22,7 +22,6 @@ pub fn compiled_texts_are_programs()
 
 /// Each edge of a compiled program comes from the statement that stands in its place among the statements of
 /// its source program, a test twice: its action does what that statement says, or goes that way of the test.
-#[tactic(auto, using(crate::proofs::Edges::actions_of_statements))]
 pub fn actions_are_of_statements()
     ensures { ActionsAreOfStatements }
 {}

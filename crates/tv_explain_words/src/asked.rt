@@ -39,7 +39,11 @@ pub(crate) fn asked_command<'a>(alloc: Global) -> Result<Command<'a>, AllocError
     let join = flag(alloc, "join");
     let updates = flag(alloc, "updates");
     let max = setting(alloc, "max-structures");
-    flagged_command(alloc)?.arg(cases)?.arg(join)?.arg(updates)?.arg(max)
+    flagged_command(alloc)?
+        .arg(cases)?
+        .arg(join)?
+        .arg(updates)?
+        .arg(max)
 }
 
 /// What stands on a line: what any command may have, and how often each option stands that few commands have. A

@@ -2,7 +2,6 @@
 
 ghost use Rattle.std.specs.Prelude.{◌≡◌, ◌≤◌, None, IfOk, IfSome, All, length};
 ghost use Rattle.tv_structure_form.specs.StructureForm.{IsStructure, IsOver, arities_of};
-ghost use Rattle.tv_layout.specs.Filled.{IsFilledFrom};
 
 use crate::text::{behind, behind_place, split_line};
 use std::alloc::{AllocError, Global};
@@ -118,7 +117,8 @@ fn put_value(s: &mut Structure, p: PredId, scan: ItemScan)
 
 fn put_summary(s: &mut Structure, u: u32)
     requires { s.old.fresh ≡ None }
-    ensures filled { IsFilledFrom s.old s.new }
+    ensures over { arities_of s.new ≡ arities_of s.old }
+    ensures fresh { s.new.fresh ≡ None }
 {
     if u < s.size() {
         s.set_summary(u, true);
@@ -127,7 +127,8 @@ fn put_summary(s: &mut Structure, u: u32)
 
 fn put_item(s: &mut Structure, subject: Subject, scan: ItemScan)
     requires { s.old.fresh ≡ None }
-    ensures filled { IsFilledFrom s.old s.new }
+    ensures over { arities_of s.new ≡ arities_of s.old }
+    ensures fresh { s.new.fresh ≡ None }
 {
     match subject {
         Subject::Summaries => put_summary(s, scan.first),
@@ -138,7 +139,8 @@ fn put_item(s: &mut Structure, subject: Subject, scan: ItemScan)
 /// Puts the items in braces.
 fn put_items(s: &mut Structure, subject: Subject, content: &[u8])
     requires { s.old.fresh ≡ None }
-    ensures filled { IsFilledFrom s.old s.new }
+    ensures over { arities_of s.new ≡ arities_of s.old }
+    ensures fresh { s.new.fresh ≡ None }
 {
     let mut scan = no_item();
     for b in content {
@@ -154,7 +156,8 @@ fn put_items(s: &mut Structure, subject: Subject, content: &[u8])
 /// Puts what stands behind the ` = ` of a line: items in braces, or one value.
 fn put_content(s: &mut Structure, subject: Subject, content: &[u8])
     requires { s.old.fresh ≡ None }
-    ensures filled { IsFilledFrom s.old s.new }
+    ensures over { arities_of s.new ≡ arities_of s.old }
+    ensures fresh { s.new.fresh ≡ None }
 {
     if content.starts_with(b"{") {
         put_items(s, subject, content);
@@ -200,7 +203,8 @@ fn behind_subject(subject: Subject, count: usize) -> usize {
 fn put_lines<'a>(s: &mut Structure, preds: &[Pred], bytes: &'a [u8]) -> Option<&'a [u8]>
     requires fresh { s.old.fresh ≡ None }
     requires count { length preds.now ≤ 512 }
-    ensures filled { IsFilledFrom s.old s.new }
+    ensures over { arities_of s.new ≡ arities_of s.old }
+    ensures fresh { s.new.fresh ≡ None }
 {
     let mut rest = bytes;
     let mut at = 0;

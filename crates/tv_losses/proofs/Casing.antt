@@ -118,13 +118,12 @@ case-among p action n (t ∷ ss) cases (first, rest, are_first, are_rest, is) s 
 
     later : Contains ss s → (x : PlacedCase) × Contains rest x × (x.it ≡ c)
         → (x : PlacedCase) × Contains cases x × (x.it ≡ c)
-    later there found =
-        (
-          found.0,
-          subst (In found.0) (sym is)
-              (Contains-append_right (map (placed_at n) first) rest found.0 found.1),
-          found.2,
-        )
+    later there found = (
+      found.0,
+      subst (In found.0) (sym is)
+          (Contains-append_right (map (placed_at n) first) rest found.0 found.1),
+      found.2,
+    )
 
 -- a case, as laws have it, is one of the structure's
 pub case-of : (p : ProgramForm) (action : ActionForm) (s : StructureForm) (c : CaseForm) → IsSureCase p action s c

@@ -5,11 +5,12 @@
 ghost use Rattle.std.specs.Prelude.{◌≡◌, ◌↔◌, ◌<◌, ℕ, [], ◌∷◌, IsTrue, IsFalse, Contains};
 ghost use Rattle.tv_coerce_members.specs.Members.{numbers_of};
 ghost use Rattle.tv_eval.specs.AssignmentForm.{assignment_of};
+ghost use Rattle.tv_eval.specs.Bound.{bound_structure, bound_room};
 ghost use Rattle.tv_model.specs.Form.{form_of, IsFree};
 ghost use Rattle.tv_model.specs.Truth.{Truth, put};
 ghost use Rattle.tv_two_valued.specs.TwoValued.{heap_of};
-ghost use Rattle.tv_replay_judge.specs.Trying.{CanTellIn, CanTellAlong, CanTryIn, IsGranted, IsMetFrom};
-ghost use Rattle.tv_replay_judge.specs.Trying.{IsMetUnder, IsRowOf, IsRuledOut, IsCheckStart};
+ghost use Rattle.tv_replay_judge.specs.Trying.{ArePlaced, CanTell, CanTry, IsGranted, IsMetFrom, IsMetUnder};
+ghost use Rattle.tv_replay_judge.specs.Trying.{IsRowOf, IsRuledOut, IsCheckStart};
 ghost use Rattle.tv_replay_judge.specs.Trying.{implication_of};
 
 use tv_eval::{Assignment, Evaluator};
@@ -49,7 +50,9 @@ fn is_granted<'a>(
     rest: &[Var],
     a: &Assignment,
 ) -> bool
-    requires can { CanTellIn evaluator.old s.now (numbers_of rest.now) a.now (form_of f.now) }
+    requires structure { bound_structure evaluator.old ≡ s.now }
+    requires can { CanTell s.now (bound_room evaluator.old) (form_of f.now) }
+    requires placed { ArePlaced s.now.size (numbers_of rest.now) a.now (form_of f.now) }
     ensures granted { IsTrue result
         → IsGranted (heap_of s.now) (numbers_of rest.now) (assignment_of a.now) (form_of f.now) }
     ensures same { evaluator.new ≡ evaluator.old }
@@ -65,7 +68,9 @@ fn may_hold_whole<'a>(
     rest: &[Var],
     a: &Assignment,
 ) -> bool
-    requires can { CanTellIn evaluator.old s.now (numbers_of rest.now) a.now (form_of f.now) }
+    requires structure { bound_structure evaluator.old ≡ s.now }
+    requires can { CanTell s.now (bound_room evaluator.old) (form_of f.now) }
+    requires placed { ArePlaced s.now.size (numbers_of rest.now) a.now (form_of f.now) }
     ensures out { IsFalse result
         → IsRuledOut (heap_of s.now) (numbers_of rest.now) (assignment_of a.now) (form_of f.now) }
     ensures same { evaluator.new ≡ evaluator.old }
@@ -81,7 +86,9 @@ fn may_hold<'a>(
     rest: &[Var],
     a: &Assignment,
 ) -> bool
-    requires can { CanTellIn evaluator.old s.now (numbers_of rest.now) a.now (form_of f.now) }
+    requires structure { bound_structure evaluator.old ≡ s.now }
+    requires can { CanTell s.now (bound_room evaluator.old) (form_of f.now) }
+    requires placed { ArePlaced s.now.size (numbers_of rest.now) a.now (form_of f.now) }
     ensures out { IsFalse result
         → IsRuledOut (heap_of s.now) (numbers_of rest.now) (assignment_of a.now) (form_of f.now) }
     ensures same { evaluator.new ≡ evaluator.old }
@@ -118,7 +125,11 @@ fn row_whole<'a>(
     f: &'a Formula,
     turn: &Turn<'_, '_>,
 ) -> Row
-    requires can { CanTellAlong evaluator.old s.now turn.now (form_of f.now) }
+    requires structure { bound_structure evaluator.old ≡ s.now }
+    requires can { CanTell s.now (bound_room evaluator.old) (form_of f.now) }
+    requires variable { turn.now.v.0 < 32 }
+    requires placed { ArePlaced s.now.size (turn.now.v.0 ∷ numbers_of turn.now.rest.now) turn.now.a.now
+        (form_of f.now) }
     ensures row { IsRowOf s.now.size
         (λ u. IsRuledOut (heap_of s.now) (numbers_of turn.now.rest.now)
         (put (assignment_of turn.now.a.now) turn.now.v.0 u) (form_of f.now)) result }
@@ -138,7 +149,11 @@ fn body_row<'a>(
     f: &'a Formula,
     turn: &Turn<'_, '_>,
 ) -> Row
-    requires can { CanTellAlong evaluator.old s.now turn.now (form_of f.now) }
+    requires structure { bound_structure evaluator.old ≡ s.now }
+    requires can { CanTell s.now (bound_room evaluator.old) (form_of f.now) }
+    requires variable { turn.now.v.0 < 32 }
+    requires placed { ArePlaced s.now.size (turn.now.v.0 ∷ numbers_of turn.now.rest.now) turn.now.a.now
+        (form_of f.now) }
     ensures row { IsRowOf s.now.size
         (λ u. IsRuledOut (heap_of s.now) (numbers_of turn.now.rest.now)
         (put (assignment_of turn.now.a.now) turn.now.v.0 u) (form_of f.now)) result }
@@ -161,7 +176,11 @@ fn lacking_row<'a>(
     f: &'a Formula,
     turn: &Turn<'_, '_>,
 ) -> Row
-    requires can { CanTellAlong evaluator.old s.now turn.now (form_of f.now) }
+    requires structure { bound_structure evaluator.old ≡ s.now }
+    requires can { CanTell s.now (bound_room evaluator.old) (form_of f.now) }
+    requires variable { turn.now.v.0 < 32 }
+    requires placed { ArePlaced s.now.size (turn.now.v.0 ∷ numbers_of turn.now.rest.now) turn.now.a.now
+        (form_of f.now) }
     ensures row { IsRowOf s.now.size
         (λ u. IsGranted (heap_of s.now) (numbers_of turn.now.rest.now)
         (put (assignment_of turn.now.a.now) turn.now.v.0 u) (form_of f.now)) result }
@@ -181,7 +200,8 @@ fn places_for<'a>(
     trial: &Implication<'a>,
     turn: &Turn<'_, '_>,
 ) -> Row
-    requires ready { CanTryIn evaluator.old s.now (implication_of trial.now) }
+    requires structure { bound_structure evaluator.old ≡ s.now }
+    requires ready { CanTry s.now (bound_room evaluator.old) (implication_of trial.now) }
     requires variable { turn.now.v.0 < 32 }
     requires walk { IsCheckStart s.now.size (implication_of trial.now)
         (turn.now.v.0 ∷ numbers_of turn.now.rest.now) turn.now.a.now }
@@ -207,7 +227,8 @@ fn is_met<'a>(
     trial: &Implication<'a>,
     a: &Assignment,
 ) -> bool
-    requires ready { CanTryIn evaluator.old s.now (implication_of trial.now) }
+    requires structure { bound_structure evaluator.old ≡ s.now }
+    requires ready { CanTry s.now (bound_room evaluator.old) (implication_of trial.now) }
     requires walk { IsCheckStart s.now.size (implication_of trial.now) [] a.now }
     ensures met { IsTrue result
         ↔ IsMetUnder (heap_of s.now) (implication_of trial.now) (assignment_of a.now) }
@@ -228,7 +249,8 @@ fn is_met_from<'a>(
     rest: &[Var],
     a: &Assignment,
 ) -> bool
-    requires ready { CanTryIn evaluator.old s.now (implication_of trial.now) }
+    requires structure { bound_structure evaluator.old ≡ s.now }
+    requires ready { CanTry s.now (bound_room evaluator.old) (implication_of trial.now) }
     requires walk { IsCheckStart s.now.size (implication_of trial.now) (numbers_of rest.now) a.now }
     ensures met { IsTrue result
         ↔ IsMetFrom (heap_of s.now) (implication_of trial.now) (numbers_of rest.now) (assignment_of a.now) }
@@ -259,7 +281,8 @@ pub(crate) fn is_met_by_all<'a>(
     vars: &[Var],
     a: &Assignment,
 ) -> bool
-    requires ready { CanTryIn evaluator.old s.now (implication_of trial.now) }
+    requires structure { bound_structure evaluator.old ≡ s.now }
+    requires ready { CanTry s.now (bound_room evaluator.old) (implication_of trial.now) }
     requires walk { IsCheckStart s.now.size (implication_of trial.now) (numbers_of vars.now) a.now }
     ensures met { IsTrue result
         ↔ IsMetFrom (heap_of s.now) (implication_of trial.now) (numbers_of vars.now) (assignment_of a.now) }

@@ -8,4 +8,3 @@ pub mod Laws
 pub mod Reading
 pub mod Nodes
 pub mod Views
-pub mod Listings

@@ -1,3 +1,4 @@
 mod Counted
 mod Placed
 mod OneList
+mod Telling

@@ -44,12 +44,7 @@ fn push_owned(
 }
 
 /// Tells of each rule that the predicate's properties stand for that it is the predicate's.
-fn push_told(
-    alloc: Global,
-    told: &mut Vec<Bytes>,
-    p: PredId,
-    pred: &Pred,
-) -> Result<(), AllocError>
+fn push_told(alloc: Global, told: &mut Vec<Bytes>, p: PredId, pred: &Pred) -> Result<(), AllocError>
     ensures { OnOk result (told.new.items ≡ told.old.items
         ++ replicate (length (property_rules p.0 pred.now.props)) (owner_text pred.now.name)) }
 {

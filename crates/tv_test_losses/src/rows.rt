@@ -241,7 +241,8 @@ const POINTED: &str = "%p x(v) %p y(v) %p n(v, w) %p b() %r b() ==> 0 %%
 L1 ask() L2 L1 set() L3";
 
 /// In the first of two structures it does.
-const BOTH: &str = "%n = {a, b} %p = { x = {a} y = {b} n = {a->b} } %n = {a, b} %p = { x = {a} y = {b} }";
+const BOTH: &str =
+    "%n = {a, b} %p = { x = {a} y = {b} n = {a->b} } %n = {a, b} %p = { x = {a} y = {b} }";
 
 /// Each of them is listed, the one without the pointer first.
 const APART: [Row; 1] = [(

@@ -12,7 +12,7 @@ count_given-requires c =
     let p = program_of c.args.trier.now.program in
     subst (λ (e : EngineForm). IsTried c.args.x.now e c.in_ok-given.given) (sym c.given.ensures.same) (record {
       candidate = c.requires;
-      gives = subst (λ m. GivesOf c.args.x.now p m c.in_ok-given.given) c.mode.ensures c.in_ok-given.ensures.given;
+      gives = subst (λ m. GivesOf c.args.x.now p m c.in_ok-given.given) c.mode-mode.ensures c.in_ok-given.ensures.given;
       over = c.in_ok-given.ensures.over;
     })
 
