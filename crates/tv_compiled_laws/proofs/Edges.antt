@@ -61,10 +61,9 @@ module _ (s : SourceText) (p : SourceForm) where
         let same : SIf u.0 b.0 c.0 ≡ stmt = cc (c.2) in
         subst (λ it. AreOf (edge_statements (XIf t body other)) (arcs p k it behind)) same (
           (u.0, u.1, refl),
-          (u.0, u.1, refl),
-          both_of (block_statements body) (block_statements other) (block_arcs p (k + 1) b.0 behind)
+          ((u.0, u.1, refl), both_of (block_statements body) (block_statements other) (block_arcs p (k + 1) b.0 behind)
               (block_arcs p (k + 1 + count_all b.0) c.0 behind) (block_of body b.0 (k + 1) behind b.1)
-              (block_of other c.0 (k + 1 + count_all b.0) behind c.1),
+              (block_of other c.0 (k + 1 + count_all b.0) behind c.1)),
         )
     statement_of (XWhile t body) stmt k behind h =
         let u = went_on (test_meant s.variables s.fields t) (λ it. block_meant s.variables s.fields body
@@ -72,7 +71,7 @@ module _ (s : SourceText) (p : SourceForm) where
         let b = went_on (block_meant s.variables s.fields body) (λ it. Ok (SWhile u.0 it)) stmt u.2 in
         let same : SWhile u.0 b.0 ≡ stmt = cc (b.2) in
         subst (λ it. AreOf (edge_statements (XWhile t body)) (arcs p k it behind)) same
-        ((u.0, u.1, refl), (u.0, u.1, refl), block_of body b.0 (k + 1) k b.1)
+        ((u.0, u.1, refl), ((u.0, u.1, refl), block_of body b.0 (k + 1) k b.1))
 
     block_of : (xs : BlockText) (stmts : Stmts) (k behind : ℕ) → block_meant s.variables s.fields xs ≡ Ok stmts
         → AreOf (block_statements xs) (block_arcs p k stmts behind)
