@@ -1,0 +1,13 @@
+pub mod Growing
+pub mod Known
+pub mod Keeping
+pub mod Levelling
+pub mod Retracing
+pub mod Asking
+pub mod Marks
+pub mod Meeting
+pub mod Turning
+pub mod Witnessing
+pub mod Preparing
+pub mod Fewer
+pub mod Finding

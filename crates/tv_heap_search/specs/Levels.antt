@@ -1,0 +1,55 @@
+-- What a breadth-first search knows level by level.
+use Rattle.std.specs.Prelude.{ℕ, ◌≡◌, ◌<◌, ◌≤◌, List, length, Contains}
+use Rattle.tv_model.specs.Heap.{Heap}
+use Rattle.tv_model.specs.Run.{IsStart, Stage}
+use Rattle.tv_step_laws.specs.Sound.{IsHeapOfSome}
+use Rattle.tv_witness_laws.specs.Search.{Place, HasMet, IsExhaustiveTo}
+use Rattle.tv_witness_laws.specs.Witness.{HasFewCells, IsWitness}
+use Rattle.tv_heap_steps.specs.Steps.{program_in}
+use Rattle.tv_heap_search.specs.Quests.{question_in}
+use Rattle.tv_heap_search.specs.Visited.{AreFollowed, HasSteps, IsAt, place_of, places_of}
+use Rattle.tv_heap_search.specs.declared.quest.Quest.{Quest}
+use Rattle.tv_heap_search.specs.declared.quest.Target.{Target}
+use Rattle.tv_heap_search.specs.declared.visits.Visit.{Visit}
+
+-- the heap stands before that place
+abbrev pub StandsBefore : List Visit → (to : ℕ) → Place → Type 0
+StandsBefore list to met =
+    (place : ℕ) × (v : Visit) × (place < to) × IsAt list place v × (place_of v ≡ met)
+
+-- what was met within each number of steps: all that so many steps reach, and it stands before all to which
+-- more steps led
+pub record IsBehind (x : Quest) (list : List Visit) (depth : ℕ) : Type 0 where
+  pub within : ℕ → List Place
+  pub ends : ℕ → ℕ
+  pub exhaustive : (target : Target) → IsExhaustiveTo (question_in x target) within depth
+  pub last : within depth ≡ places_of list
+  pub below : (k : ℕ) → k ≤ depth → ends k ≤ length list
+  pub early : (k : ℕ) → k ≤ depth → (met : Place) → Contains (within k) met → StandsBefore list (ends k) met
+  pub near : (k place steps : ℕ) → k ≤ depth → place < ends k → HasSteps list place steps → steps ≤ k
+
+-- the small start heaps were met
+abbrev pub AreAllStarted : Quest → List Visit → Type 0
+AreAllStarted x list =
+    (h : Heap) → IsStart (program_in x.walker) h → IsHeapOfSome x.initial.now h
+    → HasFewCells x.walker.cells h → HasMet (places_of list) 0 h
+
+-- what was met within so many steps; what stands before `from` is followed
+pub record IsLevel (x : Quest) (list : List Visit) (from depth : ℕ) : Type 0 where
+  pub starts : AreAllStarted x list
+  pub followed : AreFollowed x list 0 from
+  pub steps : (place steps : ℕ) → HasSteps list place steps → steps ≤ depth
+  pub behind : IsBehind x list depth
+
+-- all that was met is followed
+pub record IsExplored (x : Quest) (list : List Visit) : Type 0 where
+  pub from : ℕ
+  pub depth : ℕ
+  pub all : length list ≤ from
+  pub level : IsLevel x list from depth
+
+-- no witness has fewer steps than led to what was met at the place
+abbrev pub IsNearest : Quest → Target → List Visit → (place : ℕ) → Type 0
+IsNearest x target list place =
+    (start : Heap) (stages : List Stage) → IsWitness (question_in x target) start stages
+    → (steps : ℕ) → HasSteps list place steps → steps ≤ length stages
