@@ -24,8 +24,9 @@ use Rattle.tv_model.specs.declared.program.Mode.TheVariants.{Given, Recompute}
 use Rattle.tv_model.specs.Heap.{Heap}
 use Rattle.tv_model.specs.Program.{ProgramForm, ActionForm, action_of}
 use Rattle.tv_model.specs.declared.program.Action.{Action}
-use Rattle.tv_model.specs.Rules.{IsHeap}
-use Rattle.tv_model.specs.Step.{AgreesWithGiven}
+use Rattle.tv_model.specs.Rules.{IsHeap, MeetsProgram}
+use Rattle.tv_model.specs.Step.{AgreesWithGiven, StepsThrough}
+use Rattle.tv_model.specs.Truth.{Assignment}
 use Rattle.tv_model.specs.Valid.{IsEdge, IsValid}
 use Rattle.tv_renaming_laws.specs.Renamed.{renamed}
 use Rattle.tv_renaming_laws.proofs.Heaps.{heap-renamed}
@@ -33,8 +34,8 @@ use Rattle.tv_replay_laws.specs.Judged.{AgreesAt, IsFirst}
 use Rattle.tv_lemmas.proofs.Lists.{All-found}
 use Rattle.tv_model.specs.Rules.{MeetsRule}
 use Rattle.tv_replay_laws.specs.JudgedRules.{IsFirstUnmet, judged_rules}
-use Rattle.tv_replay_laws.specs.Next.{kept_individual, middle_of, picked_by}
-use Rattle.tv_replay_laws.specs.Stuck.{AreValuesFor, IsFirstFailure, Standing, Taken}
+use Rattle.tv_replay_laws.specs.Next.{IsFreelyUpdated, kept_individual, middle_of, picked_by}
+use Rattle.tv_replay_laws.specs.Stuck.{ArePicked, AreValuesFor, IsFirstFailure, Standing, Taken}
 use Rattle.tv_replay_laws.specs.declared.state.Why.{Why}
 use Rattle.tv_replay_laws.specs.declared.state.Why.TheVariants as why
 use Rattle.tv_replay_laws.proofs.JudgedRules.{judged_are_all}
@@ -53,13 +54,13 @@ use Rattle.tv_two_valued.specs.TwoValued.{heap_of}
 use Rattle.tv_two_valued.proofs.Heaps.{heap-of_program}
 use Rattle.tv_model.proofs.Lists.{slice_get-contains}
 use Rattle.tv_model.proofs.Parts.{arities-same}
-use Rattle.tv_witness_laws.specs.Laws.{MovesLeadEverywhere, StepsAreNamed}
-use Rattle.tv_witness_laws.specs.Steps.{IsNamedStep, LeadsToCopy}
+use Rattle.tv_witness_laws.specs.Laws.{IsToldBy, MovesTellPremises, PremisesAreTried}
+use Rattle.tv_witness_laws.specs.Premises.{HasTried, PremisesHold}
 use Rattle.tv_witness_laws.specs.Witness.{HasFewCells}
 use Rattle.tv_heap_steps.specs.Settled.{AreSettled}
-use Rattle.tv_heap_steps.specs.Steps.{AreAllSteps, IsAcceptedMove, IsMoveBy, IsPassed, IsReadyToWalk}
-use Rattle.tv_heap_steps.specs.Steps.{IsSmallHeap}
-use Rattle.tv_heap_steps.specs.Steps.{IsSmallStep, IsStepBy, IsUnbrokenBy, LeadsTo, program_in, some_of}
+use Rattle.tv_heap_steps.specs.Steps.{AreAllSteps, HasLed, HoldsAfter, IsFairMove, IsJudgedBy, IsMoveBy, IsPassed}
+use Rattle.tv_heap_steps.specs.Steps.{IsReadyToWalk, IsSmallHeap, IsSmallStep, IsStepBy, IsUnbrokenBy, LeadsTo}
+use Rattle.tv_heap_steps.specs.Steps.{program_in, some_of}
 use Rattle.tv_heap_steps.specs.declared.along.Led.{Led}
 use Rattle.tv_heap_steps.specs.declared.walker.Walker.{Walker}
 use Rattle.tv_heap_steps.proofs.ChosenLaws.{chosen_listed, none_free}
@@ -95,26 +96,35 @@ module _ (walker : Walker) (edge : ℕ) (s : StructureForm) (small : IsSmallHeap
       same_Some t.action to.action
       (sym t.its_action ∙ ap (λ (e : Edge). slice_get p.actions e.action) (same_edge t) ∙ to.its_action)
 
+  none_free-so : (t : Taken p move) (q : ℕ) → ¬ IsFreelyUpdated t.action q
+  none_free-so t =
+      none_free t.action (subst (λ (a : ActionForm). AreSettled a.updates) (sym (same_action t)) to.settled)
+
+  picks-so : (t : Taken p move) → ArePicked t.action move.picks s
+  picks-so t =
+      subst (λ a. ArePicked a move.picks s) (sym (same_action t))
+      (subst (λ us. ArePicked to.action us s) (sym by.picks_are) to.picks)
+
   -- the step by the same individuals, of the action of the move
-  named-so : (t : Taken p move) → IsNamedStep p walker.mode t.action move.picks s named
-  named-so t =
-      subst (λ a. IsNamedStep p walker.mode a move.picks s named) (sym (same_action t))
-      (subst (λ us. IsNamedStep p walker.mode to.action us s named) (sym by.picks_are) to.is)
+  through-so : (t : Taken p move)
+      → StepsThrough p t.action (picked_by t.action.picks move.picks) (heap_of s) (middle_of t.action.fresh s) named
+  through-so t =
+      subst (λ (a : ActionForm). StepsThrough p a (picked_by a.picks move.picks) (heap_of s) (middle_of a.fresh s) named)
+      (sym (same_action t))
+      (subst (λ us. StepsThrough p to.action (picked_by to.action.picks us) (heap_of s) (middle_of to.action.fresh s)
+      named) (sym by.picks_are) to.through)
 
   -- ---- where it is made
 
-  module _ (valid : IsValid p) (everywhere : MovesLeadEverywhere) (node : ℕ) (x : Moved)
+  module _ (valid : IsValid p) (tells : MovesTellPremises) (node : ℕ) (x : Moved)
       (made : IsMoved p move (record { node = node; heap = s }) x) where
     abbrev t : Taken p move
     t = made.moves.taken
 
-    pub leads : LeadsToCopy p walker.mode t.action move.picks s x.heap made.moves.kept named
-    leads =
-        everywhere p valid t.action move.picks move.values s x.heap made.moves.kept made.moves.next made.moves.unmarked
-        walker.mode named (named-so t)
-        (λ q free. absurd (none_free t.action (subst (λ (a : ActionForm). AreSettled a.updates)
-        (sym (same_action t)) to.settled)
-        q free))
+    pub told : IsToldBy p t.action move.picks s x.heap made.moves.kept named
+    told =
+        tells p valid t.action move.picks move.values s x.heap made.moves.kept made.moves.next made.moves.unmarked named
+        (through-so t) (λ q free. absurd (none_free-so t q free))
 
     of_program : IsOfProgram p x.heap
     of_program = (
@@ -122,61 +132,88 @@ module _ (walker : Walker) (edge : ℕ) (s : StructureForm) (small : IsSmallHeap
       made.moves.unmarked,
     )
 
-    few : HasFewCells walker.cells named → x.heap.size ≤ walker.cells
-    few cells =
+    pub few_then : HasFewCells walker.cells named → x.heap.size ≤ walker.cells
+    few_then cells =
         let le : length (heap_of x.heap).individuals ≤ length named.individuals
         = copies_have_as_many p (heap_of x.heap) named (heap-of_program p x.heap made.moves.next.structure of_program)
-        leads.copy
+        told.copy
         in omega (arith, le, cells, length-range_with_len 0 x.heap.size)
 
-    unbroken : (mode : Mode) → walker.mode ≡ mode → (o : Option PredId) → x.broken ≡ o → IsUnbrokenBy mode o
-    unbroken Recompute is o e = tt
-    unbroken Given is None e = refl
-    unbroken Given is (Some q) e =
-        let first : IsFirst p.preds (AgreesAt t.action (picked_by t.action.picks move.picks)
-        (middle_of t.action.fresh s) (renamed (kept_individual made.moves.kept) (heap_of x.heap))) (Some q.0)
-        = subst (λ (o : Option PredId). IsFirst p.preds (AgreesAt t.action (picked_by t.action.picks move.picks)
-        (middle_of t.action.fresh s) (renamed (kept_individual made.moves.kept) (heap_of x.heap)))
-        (option_map (λ (k : PredId). k.0) o)) e made.broken
-        in let all : AgreesWithGiven p Given t.action (picked_by t.action.picks move.picks) (middle_of t.action.fresh s)
+    abbrev Given' : Mode → Type 0
+    Given' mode =
+        AgreesWithGiven p mode t.action (picked_by t.action.picks move.picks) (middle_of t.action.fresh s)
         (renamed (kept_individual made.moves.kept) (heap_of x.heap))
-        = subst (λ m. AgreesWithGiven p m t.action (picked_by t.action.picks move.picks) (middle_of t.action.fresh s)
-        (renamed (kept_individual made.moves.kept) (heap_of x.heap))) is leads.given
-        in absurd (first.0.2 (all q.0 first.0.0 first.0.1))
 
-    pub accepted_then : HasFewCells walker.cells named → IsAcceptedMove p walker.mode walker.cells x
-    accepted_then cells = record {
-      small = few cells;
-      unbroken = unbroken walker.mode refl x.broken refl;
-      rules = (judged_are_all p (heap_of x.heap)).1 leads.meets;
-    }
+    abbrev First : Option ℕ → Type 0
+    First o =
+        IsFirst p.preds (AgreesAt t.action (picked_by t.action.picks move.picks) (middle_of t.action.fresh s)
+        (renamed (kept_individual made.moves.kept) (heap_of x.heap))) o
+
+    unbroken-there : (mode : Mode) → Given' mode → (o : Option PredId) → x.broken ≡ o → IsUnbrokenBy mode o
+    unbroken-there Recompute agrees o e = tt
+    unbroken-there Given agrees None e = refl
+    unbroken-there Given agrees (Some q) e =
+        let first : First (Some q.0)
+        = subst (λ (o : Option PredId). First (option_map (λ (k : PredId). k.0) o)) e made.broken
+        in absurd (first.0.2 (agrees q.0 first.0.0 first.0.1))
+
+    unbroken-back : (mode : Mode) → (o : Option PredId) → x.broken ≡ o → IsUnbrokenBy mode o → Given' mode
+    unbroken-back Recompute o e is = tt
+    unbroken-back Given None e is =
+        subst (λ (o : Option PredId). First (option_map (λ (k : PredId). k.0) o)) e made.broken
+    unbroken-back Given (Some q) e is = absurd (cc is)
+
+    module _ (led : Led) (same : led.moved ≡ x) (rule : IsFirstUnmet (heap_of x.heap) (judged_rules p) led.rule) where
+      rules-back : (o : Option ℕ) → IsFirstUnmet (heap_of x.heap) (judged_rules p) o → o ≡ None
+          → MeetsProgram p (heap_of x.heap)
+      rules-back None unmet none = (judged_are_all p (heap_of x.heap)).0 unmet
+      rules-back (Some n) unmet none = absurd (cc none)
+
+      rules-there : (o : Option ℕ) → IsFirstUnmet (heap_of x.heap) (judged_rules p) o → MeetsProgram p (heap_of x.heap)
+          → o ≡ None
+      rules-there None unmet meets = refl
+      rules-there (Some n) unmet meets =
+          absurd (unmet.0.2 (All-found (MeetsRule (heap_of x.heap)) (judged_rules p) n unmet.0.0
+          ((judged_are_all p (heap_of x.heap)).1 meets) unmet.0.1))
+
+      -- nothing speaks against it exactly where the premises of the step hold
+      fair-so : IsFairMove walker.mode led
+          ↔ PremisesHold p walker.mode t.action (picked_by t.action.picks move.picks) (middle_of t.action.fresh s) named
+      fair-so = (
+        λ fair. (told.alike walker.mode).0 (
+          unbroken-back walker.mode x.broken refl
+              (subst (λ (m : Moved). IsUnbrokenBy walker.mode m.broken) same fair.0),
+          rules-back led.rule rule fair.1,
+        ),
+        λ holds.
+            let both = (told.alike walker.mode).1 holds
+            in (
+              subst (λ (m : Moved). IsUnbrokenBy walker.mode m.broken) (sym same)
+                  (unbroken-there walker.mode both.0 x.broken refl),
+              rules-there led.rule rule both.1,
+            ),
+      )
+
+      pub fair_then : IsFairMove walker.mode led ↔ HoldsAfter walker to.action s chosen named
+      fair_then =
+          subst (λ (us : List ℕ). IsFairMove walker.mode led
+          ↔ PremisesHold p walker.mode to.action (picked_by to.action.picks us) (middle_of to.action.fresh s) named)
+          by.picks_are
+          (subst (λ (a : ActionForm). IsFairMove walker.mode led
+          ↔ PremisesHold p walker.mode a (picked_by a.picks move.picks) (middle_of a.fresh s) named)
+          (same_action t) fair-so)
 
   -- ---- where it isn't
 
   pub not_stuck : walker.cells < 256 → (node : ℕ) → to.taken.from ≡ node → (t : Taken p move) (why : Why)
       → ¬ IsFirstFailure (record { node = node; heap = s }) move t why
   not_stuck cells node from t why.Edge fails = fails (ap (λ (e : Edge). e.from) (same_edge t) ∙ from)
-  not_stuck cells node from t why.Picks fails = fails.1 (named-so t).picks
-  not_stuck cells node from t why.Precondition fails = fails.2 (named-so t).fair.step.precondition
+  not_stuck cells node from t why.Picks fails = fails.1 (picks-so t)
+  not_stuck cells node from t why.Precondition fails = fails.2 (through-so t).precondition
   not_stuck cells node from t why.Individuals fails = fails.3 (λ fresh. omega (arith, small.small, cells))
   not_stuck cells node from t why.Values fails =
       fails.4 (λ kept are. subst (λ values. AreValuesFor t.action (length kept) values) (sym by.values_are)
-      (none_free t.action (subst (λ (a : ActionForm). AreSettled a.updates) (sym (same_action t)) to.settled)))
-
--- ---- what is judged of it
-
-pub accepted_so : (p : ProgramForm) (mode : Mode) (cells : ℕ) (x : Moved) → x.heap.size ≤ cells
-    → IsUnbrokenBy mode x.broken → (u : Option ℕ) → IsFirstUnmet (heap_of x.heap) (judged_rules p) u → (b : Bool)
-    → is_some u ≡ not b → IsTrue b ↔ IsAcceptedMove p mode cells x
-accepted_so p mode cells x small unbroken None unmet true none =
-    (λ t_. record { small = small; unbroken = unbroken; rules = unmet }, λ a. refl)
-accepted_so p mode cells x small unbroken None unmet false none = absurd (false≢true none)
-accepted_so p mode cells x small unbroken (Some n) unmet true none = absurd (false≢true (sym none))
-accepted_so p mode cells x small unbroken (Some n) unmet false none = (
-  λ no_. absurd (false≢true no_),
-  λ a. absurd (unmet.0.2
-      (All-found (MeetsRule (heap_of x.heap)) (judged_rules p) n unmet.0.0 a.rules unmet.0.1)),
-)
+      (none_free-so t))
 
 -- ---- what a try of the chosen individuals answers
 
@@ -232,21 +269,30 @@ module _ (walker : Walker) (room : ScratchForm) (ready : IsReadyToWalk walker ro
     room = ready.room;
   }
 
-  module _ (everywhere : MovesLeadEverywhere) (x : Moved) (made : IsMoved (program_in walker) move at x) where
-    -- nothing speaks against it
-    pub step_made : (led : Led) → led ≡ record { step = move; moved = x }
-        → IsAcceptedMove (program_in walker) walker.mode walker.cells x → IsStepBy walker edge s chosen (Some led)
-    step_made led is accepted =
-        subst (λ (y : Led). IsStepBy walker edge s chosen (Some y)) (sym is) (
-          record { taken = taken; its_edge = its_edge; is_edge = by.edge_is; moved = made; accepted = accepted },
-          λ named to. (leads walker edge s small chosen move by named to ready.valid everywhere taken.from x made).copy,
-        )
-
-    -- something does
-    pub step_dropped : (IsAcceptedMove (program_in walker) walker.mode walker.cells x → ⊥)
-        → IsStepBy walker edge s chosen None
-    step_dropped not named to few =
-        not (accepted_then walker edge s small chosen move by named to ready.valid everywhere taken.from x made few)
+  module _ (tells : MovesTellPremises) (x : Moved) (made : IsMoved (program_in walker) move at x) where
+    -- it leads to a heap of few cells, or to none
+    pub step_judged : (found : Option Led) → IsJudgedBy (program_in walker) walker.cells move x found
+        → IsStepBy walker edge s chosen found
+    step_judged None many named to few =
+        absurd (omega (arith, many,
+        few_then walker edge s small chosen move by named to ready.valid tells taken.from x made few))
+    step_judged (Some led) (step, moved, few, rule) = (
+      record {
+        taken = taken;
+        its_edge = its_edge;
+        is_edge = ap (λ (m : Move). m.edge) step ∙ by.edge_is;
+        moved = subst (λ (m : Move). IsMoved (program_in walker) m at led.moved) (sym step)
+            (subst (IsMoved (program_in walker) move at) (sym moved) made);
+        small = subst (λ (m : Moved). m.heap.size ≤ walker.cells) (sym moved) few;
+        rule = subst (λ (m : Moved). IsFirstUnmet (heap_of m.heap) (judged_rules (program_in walker)) led.rule)
+            (sym moved) rule;
+      },
+      λ named to. (
+        subst (λ (m : Moved). IsHeapCopy (heap_of m.heap) named) (sym moved)
+            (told walker edge s small chosen move by named to ready.valid tells taken.from x made).copy,
+        fair_then walker edge s small chosen move by named to ready.valid tells taken.from x made led moved rule,
+      ),
+    )
 
   -- it can't be made
   pub step_stuck : (why : Why) → Halts (program_in walker) move at (Stuck why) → IsStepBy walker edge s chosen None
@@ -261,7 +307,7 @@ module _ (walker : Walker) (edge : ℕ) (s : StructureForm) where
       → IsPassed walker edge s leds chosen → IsPassed walker edge s more chosen
   passed_still leds more into chosen passed named to few =
       let one = passed named to few
-      in (one.0, into one.0 one.1, one.2)
+      in (one.0, into one.0 one.1, one.2, one.3)
 
   all_still : (leds more : List Led) → ((led : Led) → Contains leds led → Contains more led) → (lists : List (List ℕ))
       → All (IsPassed walker edge s leds) lists → All (IsPassed walker edge s more) lists
@@ -275,7 +321,7 @@ module _ (walker : Walker) (edge : ℕ) (s : StructureForm) where
   passed_more leds led lists chosen all step =
       All-push (IsPassed walker edge s (leds ++ led ∷ [])) lists chosen
       (all_still leds (leds ++ led ∷ []) (λ y at. Contains-append_left leds (led ∷ []) y at) lists all)
-      (λ named to few. (led, Contains-push leds led, step.1 named to))
+      (λ named to few. let is = step.1 named to in (led, Contains-push leds led, is.0, is.1))
 
   -- none was
   pub passed_none : (leds : List Led) (lists : List (List ℕ)) (chosen : List ℕ)
@@ -310,32 +356,33 @@ steps_next walker edge s leds more found lists i chosen within is grown step eac
 -- ---- all of them
 
 pub all_steps : (walker : Walker) (room : ScratchForm) → IsReadyToWalk walker room → (edge : ℕ) (s : StructureForm)
-    → IsSmallHeap walker s → StepsAreNamed → (taken : Edge) (action : ActionForm)
+    → IsSmallHeap walker s → PremisesAreTried → (taken : Edge) (action : ActionForm)
     → slice_get (program_in walker).edges edge ≡ Some taken
     → slice_get (program_in walker).actions taken.action ≡ Some action
     → (lists : List (List ℕ)) → lists ≡ tuples_of (range_with_len 0 s.size) (length action.picks) → (leds : List Led)
     → All (IsPassed walker edge s leds) lists → AreAllSteps walker edge s leds
-all_steps walker room ready edge s small named taken action its_edge its_action lists are leds all other is new
-    step few =
+all_steps walker room ready edge s small tried taken action its_edge its_action lists are leds all other is act
+    its_act h copy picked middle new step few =
     let p : ProgramForm = program_in walker
+    in let mode : Mode = walker.mode
+    in let known : Contains p.actions action = slice_get-contains p.actions taken.action action its_action
     in let settled : AreSettled action.updates
-    = All-contains (λ (a : ActionForm). AreSettled a.updates) p.actions action ready.settled
-    (slice_get-contains p.actions taken.action action its_action)
+    = All-contains (λ (a : ActionForm). AreSettled a.updates) p.actions action ready.settled known
     in let over : IsOfProgram p s = (
       small.over ∙ sym (arities-same walker.ordered.program.now.vocab.preds),
       small.unmarked,
     )
     in let same : other ≡ taken = same_Some other taken (sym is ∙ its_edge)
-    in let has = named p ready.valid s over walker.mode other new step
-    in let its : has.action ≡ action
-    = same_Some has.action action (sym has.its_action ∙ ap (λ (e : Edge). slice_get p.actions e.action) same
-    ∙ its_action)
-    in let own : IsNamedStep p walker.mode action has.chosen s has.named
-    = subst (λ a. IsNamedStep p walker.mode a has.chosen s has.named) its has.is
+    in let its : act ≡ action
+    = same_Some act action (sym its_act ∙ ap (λ (e : Edge). slice_get p.actions e.action) same ∙ its_action)
+    in let through : StepsThrough p action picked h middle new
+    = subst (λ a. StepsThrough p a picked h middle new) its step
+    in let has : HasTried p action s picked middle new
+    = tried p ready.valid s small.is over h copy action known picked middle new through
     in let there : Contains lists has.chosen
-    = subst (λ (ls : List (List ℕ)). Contains ls has.chosen) (sym are) (chosen_listed action has.chosen s own.picks)
+    = subst (λ (ls : List (List ℕ)). Contains ls has.chosen) (sym are) (chosen_listed action has.chosen s has.picks)
     in let cells : length has.named.individuals ≤ length new.individuals
-    = copies_have_as_many p has.named new own.fair.step.new_heap has.copy
+    = copies_have_as_many p has.named new has.through.new_heap has.copy
     in let found = All-contains (IsPassed walker edge s leds) lists has.chosen all there has.named
     (record {
       taken = taken;
@@ -343,7 +390,13 @@ all_steps walker room ready edge s small named taken action its_edge its_action 
       its_edge = its_edge;
       its_action = its_action;
       settled = settled;
-      is = own;
+      picks = has.picks;
+      through = has.through;
     })
     (omega (arith, cells, few))
-    in (found.0, found.1, copies-onward (heap_of found.0.moved.heap) has.named new found.2 has.copy)
+    in subst (λ a. HasLed mode leds (PremisesHold p mode a picked middle new) new) (sym its) (
+      found.0,
+      found.1,
+      copies-onward (heap_of found.0.moved.heap) has.named new found.2 has.copy,
+      (λ fair. (has.alike mode).0 (found.3.0 fair), λ holds. found.3.1 ((has.alike mode).1 holds)),
+    )

@@ -1,5 +1,5 @@
--- The heaps of few cells to which the fair steps from a heap lead.
-use Rattle.std.specs.Prelude.{ℕ, ◌≡◌, ◌<◌, ◌≤◌, List, [], ◌∷◌, map, Option, Some, None, All, Contains}
+-- The heaps of few cells to which the steps from a heap lead.
+use Rattle.std.specs.Prelude.{ℕ, ◌≡◌, ◌<◌, ◌≤◌, ◌↔◌, List, [], ◌∷◌, map, Option, Some, None, All, Contains}
 use Rattle.std.specs.Prelude.{slice_get, ⊤}
 use Rattle.tv_eval.specs.ScratchForm.{ScratchForm, IsMadeFor}
 use Rattle.tv_model.specs.declared.formula.PredId.{PredId}
@@ -9,9 +9,12 @@ use Rattle.tv_model.specs.declared.program.Mode.TheVariants.{Given, Recompute}
 use Rattle.tv_model.specs.Heap.{Heap}
 use Rattle.tv_model.specs.Program.{ProgramForm, ActionForm, program_of, pred_of, rule_of}
 use Rattle.tv_model.specs.Rules.{MeetsRule}
-use Rattle.tv_model.specs.Step.{FairStep}
+use Rattle.tv_model.specs.Step.{StepsThrough}
+use Rattle.tv_model.specs.Truth.{Assignment}
 use Rattle.tv_model.specs.Valid.{IsValid}
-use Rattle.tv_replay_laws.specs.JudgedRules.{judged_rules, rules_of_properties}
+use Rattle.tv_replay_laws.specs.JudgedRules.{IsFirstUnmet, judged_rules, rules_of_properties}
+use Rattle.tv_replay_laws.specs.Next.{middle_of, picked_by}
+use Rattle.tv_replay_laws.specs.Stuck.{ArePicked}
 use Rattle.tv_replay_step.specs.Stepped.{IsMoved}
 use Rattle.tv_replay_step.specs.declared.moved.Moved.{Moved}
 use Rattle.tv_start_laws.specs.Copies.{IsHeapCopy}
@@ -19,7 +22,7 @@ use Rattle.tv_structure_form.specs.StructureForm.{StructureForm, IsStructure, Is
 use Rattle.tv_trace.specs.declared.trace.Move.{Move}
 use Rattle.tv_two_valued.specs.TwoValued.{IsTwoValued, heap_of}
 use Rattle.tv_update.specs.Redefined.{AreAllDefined}
-use Rattle.tv_witness_laws.specs.Steps.{IsNamedStep}
+use Rattle.tv_witness_laws.specs.Premises.{PremisesHold}
 use Rattle.tv_witness_laws.specs.Witness.{HasFewCells}
 use Rattle.tv_heap_steps.specs.Settled.{AreAllSettled, AreSettled}
 use Rattle.tv_heap_steps.specs.declared.along.Led.{Led}
@@ -60,28 +63,38 @@ pub record IsAcceptedMove (p : ProgramForm) (mode : Mode) (cells : ℕ) (x : Mov
   pub unbroken : IsUnbrokenBy mode x.broken
   pub rules : All (MeetsRule (heap_of x.heap)) (judged_rules p)
 
--- a fair step from s along the edge of that number, to a heap of few cells
+-- no given update is broken, where the mode asks for them, and no rule
+abbrev pub IsFairMove : Mode → Led → Type 0
+IsFairMove mode led = IsUnbrokenBy mode led.moved.broken × (led.rule ≡ None)
+
+-- a step from s along the edge of that number, to a heap of few cells, and the first rule that isn't met
+-- there
 pub record IsSmallStep (walker : Walker) (edge : ℕ) (s : StructureForm) (led : Led) : Type 0 where
   pub taken : Edge
   pub its_edge : slice_get (program_in walker).edges edge ≡ Some taken
   pub is_edge : led.step.edge ≡ edge
   pub moved : IsMoved (program_in walker) led.step (record { node = taken.from; heap = s }) led.moved
-  pub accepted : IsAcceptedMove (program_in walker) walker.mode walker.cells led.moved
+  pub small : led.moved.heap.size ≤ walker.cells
+  pub rule : IsFirstUnmet (heap_of led.moved.heap) (judged_rules (program_in walker)) led.rule
 
--- one of the steps leads to a heap of which this one is a copy
-abbrev pub HasLed : List Led → Heap → Type 0
-HasLed leds h = (led : Led) × Contains leds led × IsHeapCopy (heap_of led.moved.heap) h
+-- one of the steps leads to a heap of which this one is a copy, and nothing speaks against it exactly where
+-- the premises hold
+abbrev pub HasLed : Mode → List Led → (premises : Type 0) → Heap → Type 0
+HasLed mode leds premises h =
+    (led : Led) × Contains leds led × IsHeapCopy (heap_of led.moved.heap) h × (IsFairMove mode led ↔ premises)
 
--- each heap of few cells to which a fair step along the edge leads is a copy of one to which these lead
+-- so it is for each heap of few cells to which a step along the edge leads from a copy of the heap of s
 abbrev pub AreAllSteps : Walker → (edge : ℕ) → StructureForm → List Led → Type 0
 AreAllSteps walker edge s leds =
     (taken : Edge) → slice_get (program_in walker).edges edge ≡ Some taken
-    → (new : Heap) → FairStep (program_in walker) walker.mode taken (heap_of s) new
-    → HasFewCells walker.cells new → HasLed leds new
+    → (action : ActionForm) → slice_get (program_in walker).actions taken.action ≡ Some action
+    → (h : Heap) → IsHeapCopy (heap_of s) h → (picked : Assignment) (middle new : Heap)
+    → StepsThrough (program_in walker) action picked h middle new → HasFewCells walker.cells new
+    → HasLed walker.mode leds (PremisesHold (program_in walker) walker.mode action picked middle new) new
 
 -- ---- one list of individuals after the other
 
--- a fair step along the edge by the chosen individuals, whose action leaves nothing free
+-- a step along the edge by the chosen individuals, whose action leaves nothing free
 pub record LeadsTo (walker : Walker) (edge : ℕ) (s : StructureForm) (chosen : List ℕ) (named : Heap)
     : Type 0 where
   pub taken : Edge
@@ -89,7 +102,15 @@ pub record LeadsTo (walker : Walker) (edge : ℕ) (s : StructureForm) (chosen : 
   pub its_edge : slice_get (program_in walker).edges edge ≡ Some taken
   pub its_action : slice_get (program_in walker).actions taken.action ≡ Some action
   pub settled : AreSettled action.updates
-  pub is : IsNamedStep (program_in walker) walker.mode action chosen s named
+  pub picks : ArePicked action chosen s
+  pub through : StepsThrough (program_in walker) action (picked_by action.picks chosen) (heap_of s)
+      (middle_of action.fresh s) named
+
+-- its premises hold
+abbrev pub HoldsAfter : Walker → ActionForm → StructureForm → (chosen : List ℕ) → (named : Heap) → Type 0
+HoldsAfter walker action s chosen named =
+    PremisesHold (program_in walker) walker.mode action (picked_by action.picks chosen)
+    (middle_of action.fresh s) named
 
 -- the move takes the edge and picks the individuals
 pub record IsMoveBy (edge : ℕ) (chosen : List ℕ) (move : Move) : Type 0 where
@@ -97,13 +118,23 @@ pub record IsMoveBy (edge : ℕ) (chosen : List ℕ) (move : Move) : Type 0 wher
   pub picks_are : move.picks ≡ chosen
   pub values_are : move.values ≡ None
 
+-- the move and where it leads, with the first rule that isn't met there; nothing where that has too many
+-- cells
+abbrev pub IsJudgedBy : ProgramForm → (cells : ℕ) → Move → Moved → Option Led → Type 0
+IsJudgedBy p cells step moved None = cells < moved.heap.size
+IsJudgedBy p cells step moved (Some led) =
+    (led.step ≡ step) × (led.moved ≡ moved) × (moved.heap.size ≤ cells)
+    × IsFirstUnmet (heap_of moved.heap) (judged_rules p) led.rule
+
 -- a step was made, and each heap to which these individuals lead is a copy of its; or there is no such heap
 abbrev pub IsStepBy : Walker → (edge : ℕ) → StructureForm → (chosen : List ℕ) → Option Led → Type 0
 IsStepBy walker edge s chosen None =
     (named : Heap) → LeadsTo walker edge s chosen named → ¬ HasFewCells walker.cells named
 IsStepBy walker edge s chosen (Some led) =
     IsSmallStep walker edge s led
-    × ((named : Heap) → LeadsTo walker edge s chosen named → IsHeapCopy (heap_of led.moved.heap) named)
+    × ((named : Heap) (to : LeadsTo walker edge s chosen named)
+    → IsHeapCopy (heap_of led.moved.heap) named
+    × (IsFairMove walker.mode led ↔ HoldsAfter walker to.action s chosen named))
 
 abbrev pub some_of : Option Led → List Led
 some_of None = []
@@ -112,4 +143,5 @@ some_of (Some led) = led ∷ []
 -- each heap of few cells to which the chosen individuals lead is a copy of one to which these lead
 abbrev pub IsPassed : Walker → (edge : ℕ) → StructureForm → List Led → (chosen : List ℕ) → Type 0
 IsPassed walker edge s leds chosen =
-    (named : Heap) → LeadsTo walker edge s chosen named → HasFewCells walker.cells named → HasLed leds named
+    (named : Heap) (to : LeadsTo walker edge s chosen named) → HasFewCells walker.cells named
+    → HasLed walker.mode leds (HoldsAfter walker to.action s chosen named) named

@@ -1,25 +1,27 @@
 //! The steps along an edge.
 
 ghost use Rattle.std.specs.Prelude.{◌≡◌, ◌<◌, ◌++◌, All, IfOk, OnOk, length};
-ghost use Rattle.tv_heap_steps.specs.Steps.{AreAllSteps, IsMoveBy, IsPassed, IsReadyToWalk, IsSmallHeap};
-ghost use Rattle.tv_heap_steps.specs.Steps.{IsSmallStep, IsStepBy, some_of};
+ghost use Rattle.tv_heap_steps.specs.Steps.{AreAllSteps, IsJudgedBy, IsMoveBy, IsPassed, IsReadyToWalk};
+ghost use Rattle.tv_heap_steps.specs.Steps.{IsSmallHeap, IsSmallStep, IsStepBy, program_in, some_of};
+ghost use Rattle.tv_replay_judge.specs.Ready.{IsReadyToEvaluate};
 
-use crate::accepted::is_accepted;
 use crate::chosen::all_chosen;
 use crate::walker::Walker;
 use std::alloc::{AllocError, Global};
 use tv_eval::Scratch;
 use tv_model::Items;
+use tv_replay_judge::first_unmet;
 use tv_replay_step::{Halt, Moved, next};
 use tv_struct::{Numbers, Structure};
 use tv_trace::Move;
-use tv_witness_laws::{moves_lead_everywhere, steps_are_named};
+use tv_witness_laws::{moves_tell_premises, premises_are_tried};
 
-/// A move, and where it leads.
+/// A move, where it leads, and the first rule that isn't met there.
 #[derive(Debug, Drop)]
 pub struct Led {
     pub step: Move,
     pub moved: Moved,
+    pub rule: Option<u32>,
 }
 
 /// The move along the edge by these individuals.
@@ -35,7 +37,33 @@ fn move_by(alloc: Global, edge: u32, chosen: &[u32]) -> Result<Move, AllocError>
     })
 }
 
-/// The step along the edge by these individuals, if it can be made and nothing speaks against it.
+/// The move and where it leads, where that is a heap of few cells.
+fn judged(
+    walker: &Walker<'_>,
+    step: Move,
+    moved: Moved,
+    scratch: &mut Scratch,
+) -> Result<Option<Led>, AllocError>
+    requires ready { IsReadyToWalk walker.now scratch.old }
+    requires heap { IsReadyToEvaluate (program_in walker.now) moved.heap scratch.old }
+    ensures judged { IfOk result (IsJudgedBy (program_in walker.now) walker.now.cells step moved) }
+    ensures scratch { scratch.new ≡ scratch.old }
+{
+    if moved.heap.size() > walker.cells {
+        return Ok(None);
+    }
+    let ordered = &walker.ordered;
+    let rule = first_unmet(
+        ordered.alloc,
+        ordered.program,
+        walker.properties,
+        &moved.heap,
+        scratch,
+    )?;
+    Ok(Some(Led { step, moved, rule }))
+}
+
+/// The step along the edge by these individuals, if it can be made and leads to a heap of few cells.
 fn step_by(
     walker: &Walker<'_>,
     edge: u32,
@@ -49,19 +77,13 @@ fn step_by(
     ensures step { IfOk result (IsStepBy walker.now edge s.now chosen.now) }
     ensures scratch { scratch.new ≡ scratch.old }
 {
-    moves_lead_everywhere();
+    moves_tell_premises();
     let _ = s.size();
     let ordered = &walker.ordered;
     let node = ordered.program.edges.as_slice()[edge as usize].from;
     let step = move_by(ordered.alloc, edge, chosen)?;
     match next(ordered, node, s, &step, scratch) {
-        Ok(moved) => {
-            if is_accepted(walker, &moved, scratch)? {
-                Ok(Some(Led { step, moved }))
-            } else {
-                Ok(None)
-            }
-        }
+        Ok(moved) => judged(walker, step, moved, scratch),
         Err(Halt::Stuck(_)) => Ok(None),
         Err(Halt::Memory) => Err(AllocError),
     }
@@ -103,8 +125,9 @@ fn steps_by(
     Ok(all)
 }
 
-/// The steps along the edge from the heap that `s` stands for: each is a fair step to a heap of few cells,
-/// and each such heap is a copy of one to which one of these leads. The scratch is given back as it was.
+/// The steps along the edge from the heap that `s` stands for to heaps of few cells, whether something speaks
+/// against them or not: each new heap of a step of the model is a copy of one to which one of these leads,
+/// and that step is fair where nothing speaks against the move. The scratch is given back as it was.
 ///
 /// # Errors
 /// Lack of memory.
@@ -121,7 +144,7 @@ pub fn steps_along(
     ensures all { IfOk result (λ all. AreAllSteps walker.now edge s.now all.items) }
     ensures scratch { scratch.new ≡ scratch.old }
 {
-    steps_are_named();
+    premises_are_tried();
     let program = walker.ordered.program;
     let taken = program.edges.as_slice()[edge as usize];
     let action = &program.actions.as_slice()[taken.action as usize];

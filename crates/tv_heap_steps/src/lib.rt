@@ -1,4 +1,5 @@
-//! The heaps of few cells to which the fair steps from a heap lead, each with the move that makes it.
+//! The heaps of few cells to which the steps from a heap lead, each with the move that makes it and what
+//! speaks against it.
 #![tactic(auto)]
 
 mod accepted;
@@ -7,6 +8,7 @@ mod chosen;
 mod settled;
 mod walker;
 
+pub use accepted::is_fair;
 pub use along::{Led, steps_along};
 pub use settled::are_all_settled;
 pub use walker::Walker;

@@ -79,12 +79,12 @@ with-alike h k u e = record {
 }
 
 -- a middle heap of the one, for the other
-record HasMiddle (fresh : Bool) (copy middle : Heap) : Type 0 where
-  own : Heap
-  is : IsMiddle fresh copy own
-  alike : LookAlike middle own
+pub record HasMiddle (fresh : Bool) (copy middle : Heap) : Type 0 where
+  pub own : Heap
+  pub is : IsMiddle fresh copy own
+  pub alike : LookAlike middle own
 
-other-middle : (fresh : Bool) (old copy middle : Heap) → LookAlike old copy → IsMiddle fresh old middle
+pub other-middle : (fresh : Bool) (old copy middle : Heap) → LookAlike old copy → IsMiddle fresh old middle
     → HasMiddle fresh copy middle
 other-middle false old copy middle e is = record { own = copy; is = refl; alike = rw is e }
 other-middle true old copy middle e (u, out, is) = record {
@@ -120,14 +120,14 @@ update-alike h k e new picked q None us follows =
 update-alike h k e new picked q (Some w) us follows =
     change-alike h k e picked w.vars w.change us (Holds new q us) follows
 
-given-alike : (p : ProgramForm) (mode : Mode) (action : ActionForm) (picked : Assignment) (h k new : Heap)
+pub given-alike : (p : ProgramForm) (mode : Mode) (action : ActionForm) (picked : Assignment) (h k new : Heap)
     → LookAlike h k
     → AgreesWithGiven p mode action picked h new → AgreesWithGiven p mode action picked k new
 given-alike p Recompute action picked h k new e agrees = agrees
 given-alike p Given action picked h k new e agrees = λ q d found defined w update us fits.
     change-alike h k e picked w.vars w.change us (Holds new q us) (agrees q d found defined w update us fits)
 
-through-alike : (p : ProgramForm) (action : ActionForm) (picked : Assignment) (old copy middle own new : Heap)
+pub through-alike : (p : ProgramForm) (action : ActionForm) (picked : Assignment) (old copy middle own new : Heap)
     → LookAlike old copy
     → IsHeap p copy → LookAlike middle own → IsMiddle action.fresh copy own
     → StepsThrough p action picked old middle new → StepsThrough p action picked copy own new

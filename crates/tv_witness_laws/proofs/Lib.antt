@@ -4,3 +4,4 @@ pub mod Ending
 pub mod Starting
 pub mod Replaying
 pub mod Stepping
+pub mod Trying

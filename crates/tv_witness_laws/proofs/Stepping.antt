@@ -48,7 +48,7 @@ use Rattle.tv_start_laws.proofs.Copying.{copy-back, copy-renamed}
 -- ---- what is put for variables
 
 -- when the values of a are put for variables, each of these has a's value, and so has what had it before
-put_all-holds : (b a : Assignment) (vars : List ℕ) (v : ℕ) → Contains vars v ⊎ (b v ≡ a v)
+pub put_all-holds : (b a : Assignment) (vars : List ℕ) (v : ℕ) → Contains vars v ⊎ (b v ≡ a v)
     → put_all b vars (map a vars) v ≡ a v
 put_all-holds b a [] v (inl at) = absurd (Contains-none v at)
 put_all-holds b a [] v (inr e) = e
@@ -110,7 +110,7 @@ module _ (p : ProgramForm) (action : ActionForm) (valid : IsAction p action) (a 
   follows-same h new q d found (Some w) e us long follows =
       change-same h q d found w e us long (Holds new q us) w.change refl follows
 
-  through-same : (old middle new : Heap) → StepsThrough p action a old middle new
+  pub through-same : (old middle new : Heap) → StepsThrough p action a old middle new
       → StepsThrough p action b old middle new
   through-same old middle new step = record {
     old_heap = step.old_heap;
@@ -130,7 +130,7 @@ module _ (p : ProgramForm) (action : ActionForm) (valid : IsAction p action) (a 
     concrete = step.concrete;
   }
 
-  given-same : (mode : Mode) (middle new : Heap) → AgreesWithGiven p mode action a middle new
+  pub given-same : (mode : Mode) (middle new : Heap) → AgreesWithGiven p mode action a middle new
       → AgreesWithGiven p mode action b middle new
   given-same Recompute middle new agrees = agrees
   given-same Given middle new agrees = λ q d found defined w update us fits.
@@ -140,17 +140,17 @@ module _ (p : ProgramForm) (action : ActionForm) (valid : IsAction p action) (a 
 -- ---- the number of a further individual
 
 -- a renaming that gives the further individual the number behind all others
-record NamesFurther (fresh : Bool) (s : StructureForm) (middle : Heap) : Type 0 where
-  to : ℕ → ℕ
-  is : IsRenaming to to
-  stays : (x : ℕ) → x < s.size → to x ≡ x
-  named : renamed to middle ≡ middle_of fresh s
+pub record NamesFurther (fresh : Bool) (s : StructureForm) (middle : Heap) : Type 0 where
+  pub to : ℕ → ℕ
+  pub is : IsRenaming to to
+  pub stays : (x : ℕ) → x < s.size → to x ≡ x
+  pub named : renamed to middle ≡ middle_of fresh s
 
-own-name : (s : StructureForm) → s.fresh ≡ None → (w : ℕ → ℕ) → ((x : ℕ) → x < s.size → w x ≡ x)
+pub own-name : (s : StructureForm) → s.fresh ≡ None → (w : ℕ → ℕ) → ((x : ℕ) → x < s.size → w x ≡ x)
     → renamed w (heap_of s) ≡ heap_of s
 own-name s unmarked w stays = same-names s w (λ x. x) unmarked stays ∙ renamed-same (heap_of s)
 
-names-further : (fresh : Bool) (s : StructureForm) → s.fresh ≡ None → (middle : Heap)
+pub names-further : (fresh : Bool) (s : StructureForm) → s.fresh ≡ None → (middle : Heap)
     → IsMiddle fresh (heap_of s) middle
     → NamesFurther fresh s middle
 names-further false s unmarked middle e = record {
@@ -272,7 +272,7 @@ module _ (p : ProgramForm) (action : ActionForm) (picked : Assignment) (old midd
       by_update None e one_follows two_follows = two_follows.1 (one_follows.0 held)
       by_update (Some w) e one_follows two_follows = by_change w e w.change refl one_follows two_follows
 
-  same-heap : AtMostOneConcrete → IsValid p → (x y : Heap) → StepsThrough p action picked old middle x
+  pub same-heap : AtMostOneConcrete → IsValid p → (x y : Heap) → StepsThrough p action picked old middle x
       → StepsThrough p action picked old middle y
       → ((q : ℕ) → IsFreelyUpdated action q → (tuple : List ℕ) → Holds x q tuple ↔ Holds y q tuple) → LookAlike x y
   same-heap one_concrete valid x y one two free = record {
@@ -297,7 +297,7 @@ change-held h picked vars CFree us held holds both allows = allows
 change-held h picked vars (CTo f) us held holds both allows = (λ t. allows.0 (both.0 t), λ t. both.1 (allows.1 t))
 
 -- given updates agree with a heap that looks alike
-agrees-alike : (p : ProgramForm) (mode : Mode) (action : ActionForm) (picked : Assignment) (middle x y : Heap)
+pub agrees-alike : (p : ProgramForm) (mode : Mode) (action : ActionForm) (picked : Assignment) (middle x y : Heap)
     → LookAlike x y
     → AgreesWithGiven p mode action picked middle y → AgreesWithGiven p mode action picked middle x
 agrees-alike p Recompute action picked middle x y e agrees = agrees
@@ -306,7 +306,7 @@ agrees-alike p Given action picked middle x y e agrees = λ q d found defined w 
     (agrees q d found defined w update us
     (fits.0, All-weaker (Contains x.individuals) (Contains y.individuals) (λ u at. (e.individuals u).0 at) us fits.1))
 
-copy-meets : (p : ProgramForm) (r s : ℕ → ℕ) (h k : Heap) → IsCopyBy r s h k → MeetsProgram p k → MeetsProgram p h
+pub copy-meets : (p : ProgramForm) (r s : ℕ → ℕ) (h k : Heap) → IsCopyBy r s h k → MeetsProgram p k → MeetsProgram p h
 copy-meets p r s h k by meets =
     let turned : IsCopyBy s r k h = copy-back r s h k by
     in alike-meets p (renamed s k) h turned.alike (meets-renamed p s r turned.renaming k meets)

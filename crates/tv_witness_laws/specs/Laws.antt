@@ -5,14 +5,14 @@ use Rattle.tv_model.specs.declared.program.Edge.{Edge}
 use Rattle.tv_model.specs.declared.program.Mode.{Mode}
 use Rattle.tv_model.specs.Heap.{Heap, Holds}
 use Rattle.tv_model.specs.Program.{ProgramForm, ActionForm, MessageForm}
-use Rattle.tv_model.specs.Rules.{blank}
+use Rattle.tv_model.specs.Rules.{MeetsProgram, blank}
 use Rattle.tv_model.specs.Run.{Stage, IsStart, IsRun, Brings}
-use Rattle.tv_model.specs.Step.{FairStep}
-use Rattle.tv_model.specs.Truth.{Truth}
+use Rattle.tv_model.specs.Step.{AgreesWithGiven, FairStep, StepsThrough}
+use Rattle.tv_model.specs.Truth.{Assignment, Truth}
 use Rattle.tv_model.specs.Valid.{IsValid, IsOver}
 use Rattle.tv_listing.specs.declared.analysis.MessageLine.{MessageLine}
 use Rattle.tv_renaming_laws.specs.Renamed.{renamed}
-use Rattle.tv_replay_laws.specs.Next.{IsNext, IsFreelyUpdated, kept_individual}
+use Rattle.tv_replay_laws.specs.Next.{IsNext, IsFreelyUpdated, kept_individual, middle_of, picked_by}
 use Rattle.tv_replay_laws.specs.States.{IsReplay}
 use Rattle.tv_replay_laws.specs.declared.state.State.{State}
 use Rattle.tv_step_laws.specs.Closed.{CoversRuns, HasLine}
@@ -24,6 +24,7 @@ use Rattle.tv_two_valued.specs.Laws.{IsOfProgram}
 use Rattle.tv_two_valued.specs.TwoValued.{IsTwoValued, heap_of}
 use Rattle.tv_start_laws.specs.Copies.{IsHeapCopy}
 use Rattle.tv_witness_laws.specs.Replays.{last_shown, IsSmallState, IsAcceptedReplay}
+use Rattle.tv_witness_laws.specs.Premises.{HasTried, PremisesHold}
 use Rattle.tv_witness_laws.specs.Search.{Place, HasMet, IsExhaustive, IsExhaustiveTo, MeetsNoGoal}
 use Rattle.tv_start_laws.specs.Starts.{FitsBelow}
 use Rattle.tv_start_laws.specs.Starts.{ArePartSizes}
@@ -145,3 +146,35 @@ MovesLeadEverywhere =
     → ((q : ℕ) → IsFreelyUpdated action q → (tuple : List ℕ)
     → Holds (renamed (kept_individual kept) (heap_of t)) q tuple ↔ Holds named q tuple)
     → LeadsToCopy p mode action chosen s t kept named
+
+-- ---- premises
+
+-- each step from a copy of a structure's heap is, up to names, one by chosen individuals from the structure's
+-- heap, whether premises hold after it or not
+abbrev pub PremisesAreTried : Type 0
+PremisesAreTried =
+    (p : ProgramForm) → IsValid p → (s : StructureForm) → IsStructure s → IsOfProgram p s
+    → (h : Heap) → IsHeapCopy (heap_of s) h → (action : ActionForm) → Contains p.actions action
+    → (picked : Assignment) (middle new : Heap) → StepsThrough p action picked h middle new
+    → HasTried p action s picked middle new
+
+-- the heap to which a move leads is a copy of the new heap, and premises hold after the step exactly where
+-- nothing speaks against the move
+pub record IsToldBy (p : ProgramForm) (action : ActionForm) (chosen : List ℕ) (s t : StructureForm)
+    (kept : List ℕ) (named : Heap) : Type 0 where
+  pub copy : IsHeapCopy (heap_of t) named
+  pub alike : (mode : Mode)
+      → (AgreesWithGiven p mode action (picked_by action.picks chosen) (middle_of action.fresh s)
+      (renamed (kept_individual kept) (heap_of t)) × MeetsProgram p (heap_of t))
+      ↔ PremisesHold p mode action (picked_by action.picks chosen) (middle_of action.fresh s) named
+
+-- so it is for each step by the same individuals after which freely updated predicates hold alike
+abbrev pub MovesTellPremises : Type 0
+MovesTellPremises =
+    (p : ProgramForm) → IsValid p → (action : ActionForm) (chosen : List ℕ) (values : Option StructureForm)
+    (s t : StructureForm) (kept : List ℕ) → IsNext p action chosen values s t kept → t.fresh ≡ None
+    → (named : Heap)
+    → StepsThrough p action (picked_by action.picks chosen) (heap_of s) (middle_of action.fresh s) named
+    → ((q : ℕ) → IsFreelyUpdated action q → (tuple : List ℕ)
+    → Holds (renamed (kept_individual kept) (heap_of t)) q tuple ↔ Holds named q tuple)
+    → IsToldBy p action chosen s t kept named

@@ -3,7 +3,7 @@
 ghost use Rattle.tv_witness_laws.specs.Laws.{CopiesKeepAims, CopiesKeepMessages, EnoughCellsShowRuns};
 ghost use Rattle.tv_witness_laws.specs.Laws.{SearchesEnd, WitnessesAreLong, WitnessesHaveLines};
 ghost use Rattle.tv_witness_laws.specs.Laws.{SplitsHaveAllStarts, ReplaysShowWitnesses, StepsAreNamed};
-ghost use Rattle.tv_witness_laws.specs.Laws.{MovesLeadEverywhere};
+ghost use Rattle.tv_witness_laws.specs.Laws.{MovesLeadEverywhere, MovesTellPremises, PremisesAreTried};
 
 use tv_concrete::at_most_one_is_concrete;
 
@@ -59,6 +59,20 @@ pub fn steps_are_named()
 /// freely updated predicates hold alike; and nothing speaks against the move then.
 pub fn moves_lead_everywhere()
     ensures { MovesLeadEverywhere }
+{
+    at_most_one_is_concrete();
+}
+
+/// Each step from a copy of a structure's heap is, up to names, one by chosen individuals from the structure's
+/// heap, whether or not its premises hold; and they hold after the one if they do after the other.
+pub fn premises_are_tried()
+    ensures { PremisesAreTried }
+{}
+
+/// Where a move can be made and nothing speaks against it, premises hold after each step by the same
+/// individuals, where freely updated predicates hold alike.
+pub fn moves_tell_premises()
+    ensures { MovesTellPremises }
 {
     at_most_one_is_concrete();
 }

@@ -7,6 +7,6 @@ mod laws;
 
 pub use laws::{
     copies_keep_aims, copies_keep_messages, enough_cells_show_runs, moves_lead_everywhere,
-    replays_show_witnesses, searches_end, splits_have_all_starts, steps_are_named,
+    moves_tell_premises, premises_are_tried, replays_show_witnesses, searches_end, splits_have_all_starts, steps_are_named,
     witnesses_are_long, witnesses_have_lines,
 };

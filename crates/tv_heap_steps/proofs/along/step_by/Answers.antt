@@ -12,35 +12,14 @@ pub next-requires-clause-step : goal.next-requires-clause-step
 next-requires-clause-step c =
     move_on c.args.walker.now c.args.edge c.args.chosen.now c.in_ok-step.step c.in_ok-step.ensures c.requires.edge
 
-pub is_accepted-requires-clause-heap : goal.is_accepted-requires-clause-heap
-is_accepted-requires-clause-heap c =
+pub judged-requires-clause-heap : goal.judged-requires-clause-heap
+judged-requires-clause-heap c =
     let walker = c.args.walker.now
     in let taken : Edge = get_or c.as_slice.result.now c.args.edge (record { from = 0; action = 0; to = 0 })
     in let its = edge_is walker c.args.edge c.as_slice.result.now c.as_slice.ensures c.requires.edge
     in subst (IsReadyToEvaluate (program_in walker) c.in-Ok.moved.heap) (sym c.next.ensures.scratch)
     (ready_moved walker c.args.scratch.now c.requires.ready c.args.edge c.args.s.now c.requires.heap c.args.chosen.now
     c.in_ok-step.step c.in_ok-step.ensures taken its c.in-Ok.moved c.in-Ok.ensures.moved)
-
-pub returns-then-branch-clause-step : goal.returns-then-branch-clause-step
-returns-then-branch-clause-step c =
-    let walker = c.args.walker.now
-    in let taken : Edge = get_or c.as_slice.result.now c.args.edge (record { from = 0; action = 0; to = 0 })
-    in let its = edge_is walker c.args.edge c.as_slice.result.now c.as_slice.ensures c.requires.edge
-    in step_made walker c.args.scratch.now c.requires.ready c.args.edge c.args.s.now c.requires.heap c.args.chosen.now
-    c.in_ok-step.step c.in_ok-step.ensures taken its c.moves_lead_everywhere.ensures c.in-Ok.moved
-    c.in-Ok.ensures.moved (record { step = c.in_ok-step.step; moved = c.in-Ok.moved }) refl
-    (c.in_ok-is_accepted-in-Ok.ensures.accepted.0 c.if-branch.true)
-
-pub returns-in-Ok-clause-step : goal.returns-in-Ok-clause-step
-returns-in-Ok-clause-step c =
-    let walker = c.args.walker.now
-    in let taken : Edge = get_or c.as_slice.result.now c.args.edge (record { from = 0; action = 0; to = 0 })
-    in let its = edge_is walker c.args.edge c.as_slice.result.now c.as_slice.ensures c.requires.edge
-    in step_dropped walker c.args.scratch.now c.requires.ready c.args.edge c.args.s.now c.requires.heap
-    c.args.chosen.now
-    c.in_ok-step.step c.in_ok-step.ensures taken its c.moves_lead_everywhere.ensures c.in-Ok.moved
-    c.in-Ok.ensures.moved
-    (λ is. false≢true (sym c.if-branch.false ∙ c.in_ok-is_accepted-in-Ok.ensures.accepted.1 is))
 
 pub returns-in-Err-Stuck-clause-step : goal.returns-in-Err-Stuck-clause-step
 returns-in-Err-Stuck-clause-step c =

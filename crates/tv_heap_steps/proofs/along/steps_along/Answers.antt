@@ -18,7 +18,7 @@ returns-clause-all c =
     in let action = action_is walker c.requires.ready.valid c.args.edge taken its c.as_slice-2.result.now
     c.as_slice-2.ensures a c.index-as_slice-taken.is
     in all_steps walker c.args.scratch.now c.requires.ready c.args.edge c.args.s.now c.requires.heap
-    c.steps_are_named.ensures taken (action_of a) its action c.in_ok-lists.lists.items
+    c.premises_are_tried.ensures taken (action_of a) its action c.in_ok-lists.lists.items
     (c.in_ok-lists.ensures
     ∙ ap₂ (λ n k. tuples_of (range_with_len 0 n) k) c.size.ensures.size
     (ap length c.as_slice-3.ensures ∙ sym (length-map a.picks (λ (v : Var). v.0))))
