@@ -15,7 +15,8 @@ use Rattle.tv_trace.specs.declared.trace.Move.{Move}
 use Rattle.tv_two_valued.specs.TwoValued.{heap_of}
 use Rattle.tv_witness_laws.specs.Search.{Place, HasMet}
 use Rattle.tv_witness_laws.specs.Witness.{HasFewCells}
-use Rattle.tv_heap_steps.specs.Steps.{IsAcceptedMove, IsSmallHeap, program_in}
+use Rattle.tv_heap_steps.specs.Steps.{IsAcceptedMove, IsFairMove, IsSmallHeap, program_in}
+use Rattle.tv_replay_laws.specs.JudgedRules.{IsFirstUnmet, judged_rules}
 use Rattle.tv_heap_steps.specs.declared.along.Led.{Led}
 use Rattle.tv_heap_search.specs.declared.quest.Quest.{Quest}
 use Rattle.tv_heap_search.specs.declared.visits.Origin.{Origin}
@@ -126,12 +127,14 @@ AreMetOf x list s =
     (h : Heap) → IsStart (program_in x.walker) h → IsHeapOf h (structure_of s) → HasFewCells x.walker.cells h
     → HasMet (places_of list) 0 h
 
--- each is a fair step from the heap that was met at the place
-abbrev pub LeaveFrom : Quest → List Visit → (place : ℕ) → List Led → Type 0
-LeaveFrom x list place leds =
-    (b : Visit) → IsAt list place b
-    → All (λ led. IsMoved (program_in x.walker) led.step (record { node = b.node; heap = b.heap }) led.moved
-    × IsAcceptedMove (program_in x.walker) x.walker.mode x.walker.cells led.moved) leds
+-- it is a step from the heap that was met at the place, with the first rule that isn't met after it
+pub record IsLedFrom (x : Quest) (b : Visit) (led : Led) : Type 0 where
+  pub is : IsMoved (program_in x.walker) led.step (record { node = b.node; heap = b.heap }) led.moved
+  pub small : led.moved.heap.size ≤ x.walker.cells
+  pub rule : IsFirstUnmet (heap_of led.moved.heap) (judged_rules (program_in x.walker)) led.rule
+
+abbrev pub LeavesFrom : Quest → List Visit → (place : ℕ) → Led → Type 0
+LeavesFrom x list place led = (b : Visit) × IsAt list place b × IsLedFrom x b led
 
 -- what was met at the place is followed along the edge
 abbrev pub IsFollowedFrom : Quest → List Visit → (place edge : ℕ) → Type 0
@@ -143,9 +146,16 @@ pub record AreFirstMet (x : Quest) (so_far : List StructureForm) (old new : Visi
   pub grows : Grows IsFirst old new
   pub met : (t : StructureForm) → Contains so_far t → HasMet (places_of new.list.items) 0 (heap_of t)
 
--- where the steps lead, which are made from what was met at the place, was met one after the other
+-- where the step leads, which is made from what was met at the place, was met if nothing speaks against it
+pub record IsLedMet (x : Quest) (before : ℕ) (led : Led) (old new : Visits) : Type 0 where
+  pub kept : IsSearch x new
+  pub grows : Grows (IsFrom before) old new
+  pub met : IsFairMove x.walker.mode led
+      → HasMet (places_of new.list.items) led.moved.node (heap_of led.moved.heap)
+
+-- so it is for each of the steps, one after the other
 pub record AreLedMet (x : Quest) (before : ℕ) (so_far : List Led) (old new : Visits) : Type 0 where
   pub kept : IsSearch x new
   pub grows : Grows (IsFrom before) old new
-  pub met : (led : Led) → Contains so_far led
+  pub met : (led : Led) → Contains so_far led → IsFairMove x.walker.mode led
       → HasMet (places_of new.list.items) led.moved.node (heap_of led.moved.heap)

@@ -1,9 +1,9 @@
 //! What was met is followed.
 
-ghost use Rattle.std.specs.Prelude.{◌≡◌, ◌<◌, ◌≤◌, OnOk, length};
+ghost use Rattle.std.specs.Prelude.{◌≡◌, ◌<◌, ◌≤◌, All, OnOk, length};
 ghost use Rattle.tv_heap_search.specs.Quests.{IsReadyQuest};
 ghost use Rattle.tv_heap_search.specs.Visited.{AreLedMet, Grows, IsFrom, IsFromBelow, IsFollowedFrom};
-ghost use Rattle.tv_heap_search.specs.Visited.{AreFollowed, IsFollowedAt, IsSearch, LeaveFrom};
+ghost use Rattle.tv_heap_search.specs.Visited.{AreFollowed, IsFollowedAt, IsLedMet, IsSearch, LeavesFrom};
 ghost use Rattle.tv_heap_steps.specs.Steps.{program_in};
 ghost use Rattle.tv_model.specs.Valid.{IsValid};
 
@@ -11,7 +11,31 @@ use crate::error::SearchError;
 use crate::quest::Quest;
 use crate::visits::{Origin, Visit, Visits};
 use tv_eval::Scratch;
-use tv_heap_steps::{Led, steps_along};
+use tv_heap_steps::{Led, is_fair, steps_along};
+
+/// Meets where the step leads, which is made from what was met at the place, if nothing speaks against it.
+fn meet_led(
+    x: &Quest<'_>,
+    before: usize,
+    led: Led,
+    visits: &mut Visits,
+) -> Result<(), SearchError>
+    requires valid { IsValid (program_in x.now.walker) }
+    requires kept { IsSearch x.now visits.old }
+    requires step { LeavesFrom x.now visits.old.list.items before led }
+    ensures met { OnOk result (IsLedMet x.now before led visits.old visits.new) }
+{
+    if !is_fair(x.walker.mode, &led) {
+        return Ok(());
+    }
+    let Led { step, moved, rule: _ } = led;
+    let visit = Visit {
+        node: moved.node,
+        heap: moved.heap,
+        origin: Origin::Step { before, step },
+    };
+    visits.meet(x.walker.ordered.alloc, visit, x.most)
+}
 
 /// Meets where the steps lead, which are made from what was met at the place.
 fn meet_all(
@@ -23,17 +47,11 @@ fn meet_all(
     requires valid { IsValid (program_in x.now.walker) }
     requires place { before < length visits.old.list.items }
     requires kept { IsSearch x.now visits.old }
-    requires steps { LeaveFrom x.now visits.old.list.items before all.items }
+    requires steps { All (LeavesFrom x.now visits.old.list.items before) all.items }
     ensures met { OnOk result (AreLedMet x.now before all.items visits.old visits.new) }
 {
     for led in all {
-        let Led { step, moved } = led;
-        let visit = Visit {
-            node: moved.node,
-            heap: moved.heap,
-            origin: Origin::Step { before, step },
-        };
-        visits.meet(x.walker.ordered.alloc, visit, x.most)?;
+        meet_led(x, before, led, visits)?;
     }
     Ok(())
 }
