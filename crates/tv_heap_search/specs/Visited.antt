@@ -55,6 +55,7 @@ pub record LeadsHere (x : Quest) (b v : Visit) (step : Move) : Type 0 where
   pub moved : Moved
   pub node : v.node ≡ moved.node
   pub heap : v.heap ≡ moved.heap
+  pub values : step.values ≡ None
   pub is : IsMoved (program_in x.walker) step (record { node = b.node; heap = b.heap }) moved
   pub accepted : IsAcceptedMove (program_in x.walker) x.walker.mode x.walker.cells moved
 
@@ -126,12 +127,15 @@ AreMetOf x list s =
     (h : Heap) → IsStart (program_in x.walker) h → IsHeapOf h (structure_of s) → HasFewCells x.walker.cells h
     → HasMet (places_of list) 0 h
 
--- each is a fair step from the heap that was met at the place
+-- it is a fair step from the heap that was met
+pub record IsLedFrom (x : Quest) (b : Visit) (led : Led) : Type 0 where
+  pub values : led.step.values ≡ None
+  pub is : IsMoved (program_in x.walker) led.step (record { node = b.node; heap = b.heap }) led.moved
+  pub accepted : IsAcceptedMove (program_in x.walker) x.walker.mode x.walker.cells led.moved
+
+-- each is one from the heap that was met at the place
 abbrev pub LeaveFrom : Quest → List Visit → (place : ℕ) → List Led → Type 0
-LeaveFrom x list place leds =
-    (b : Visit) → IsAt list place b
-    → All (λ led. IsMoved (program_in x.walker) led.step (record { node = b.node; heap = b.heap }) led.moved
-    × IsAcceptedMove (program_in x.walker) x.walker.mode x.walker.cells led.moved) leds
+LeaveFrom x list place leds = (b : Visit) → IsAt list place b → All (IsLedFrom x b) leds
 
 -- what was met at the place is followed along the edge
 abbrev pub IsFollowedFrom : Quest → List Visit → (place edge : ℕ) → Type 0
