@@ -23,12 +23,12 @@ use Rattle.tv_two_valued.specs.TwoValued.{heap_of}
 use Rattle.tv_witness_laws.specs.Search.{HasMet}
 use Rattle.tv_witness_laws.specs.Witness.{HasFewCells}
 use Rattle.tv_heaps.specs.Heaps.{AreHeapsIn, IsHeapIn}
-use Rattle.tv_heap_steps.specs.Steps.{AreAllSteps, IsAcceptedMove, IsSmallHeap, IsSmallStep, program_in}
+use Rattle.tv_heap_steps.specs.Steps.{AreAllSteps, IsSmallHeap, IsSmallStep, program_in}
 use Rattle.tv_heap_steps.specs.declared.along.Led.{Led}
 use Rattle.tv_heap_search.specs.Quests.{IsReadyQuest}
 use Rattle.tv_heap_search.specs.Visited.{AreFirstMet, AreKnown, AreLedMet, AreMetOf, Grows, IsAt, IsFirst}
 use Rattle.tv_heap_search.specs.Visited.{IsFollowedAlong}
-use Rattle.tv_heap_search.specs.Visited.{IsFollowedFrom, IsFrom, IsOrigin, IsSearch, IsVisit, LeaveFrom, places_of}
+use Rattle.tv_heap_search.specs.Visited.{IsFollowedFrom, IsFrom, IsLedFrom, IsOrigin, IsSearch, IsVisit, LeaveFrom, places_of}
 use Rattle.tv_heap_search.specs.declared.quest.Quest.{Quest}
 use Rattle.tv_heap_search.specs.declared.visits.Origin.{Origin}
 use Rattle.tv_heap_search.specs.declared.visits.Origin.TheVariants.{Start, Step}
@@ -140,8 +140,10 @@ visit_by before led = record {
 }
 
 module _ (x : Quest) (valid : IsValid (program_in x.walker)) (before : ℕ) (b : Visit) (led : Led)
-    (moved : IsMoved (program_in x.walker) led.step (record { node = b.node; heap = b.heap }) led.moved)
-    (accepted : IsAcceptedMove (program_in x.walker) x.walker.mode x.walker.cells led.moved) where
+    (from : IsLedFrom x b led) where
+  moved : IsMoved (program_in x.walker) led.step (record { node = b.node; heap = b.heap }) led.moved
+  moved = from.is
+
   led_visit : (list : List Visit) → before < length list → IsAt list before b → IsSmallHeap x.walker b.heap
       → IsVisit x list (length list) (visit_by before led)
   led_visit list within at small = record {
@@ -150,14 +152,14 @@ module _ (x : Quest) (valid : IsValid (program_in x.walker)) (before : ℕ) (b :
       over = moved.moves.next.over ∙ small.over;
       unmarked = moved.moves.unmarked;
       two_valued = moved.moves.next.two_valued;
-      small = accepted.small;
+      small = from.accepted.small;
     };
     node = subst (λ n. n < length x.walker.ordered.program.now.nodes) (sym moved.moves.node)
         (All-contains (IsEdge (program_in x.walker)) (program_in x.walker).edges moved.moves.taken.edge valid.edges
         (slice_get-contains (program_in x.walker).edges led.step.edge moved.moves.taken.edge moved.moves.taken.its_edge)).1;
     origin = (
       within,
-      (b, at, record { moved = led.moved; node = refl; heap = refl; is = moved; accepted = accepted }),
+      (b, at, record { moved = led.moved; node = refl; heap = refl; values = from.values; is = moved; accepted = from.accepted }),
     );
   }
 
@@ -195,13 +197,13 @@ steps_leave x list place edge v leds taken at its_edge leaves each b there k d w
     in let same : taken ≡ step.taken = same_Some taken step.taken (sym its_edge ∙ step.its_edge)
     in let node : step.taken.from ≡ v.node = ap (λ (e : Edge). e.from) (sym same) ∙ leaves
     in let is : v ≡ b = at_once list place v b at there
-    in subst (λ (w : Visit). IsMoved (program_in x.walker) (get_or leds k d).step (record { node = w.node; heap = w.heap })
-    (get_or leds k d).moved
-    × IsAcceptedMove (program_in x.walker) x.walker.mode x.walker.cells (get_or leds k d).moved) is (
-      subst (λ n. IsMoved (program_in x.walker) (get_or leds k d).step (record { node = n; heap = v.heap })
-          (get_or leds k d).moved) node step.moved,
-      step.accepted,
-    )
+    in subst (λ (w : Visit). IsLedFrom x w (get_or leds k d)) is
+    (record {
+      values = step.values;
+      is = subst (λ n. IsMoved (program_in x.walker) (get_or leds k d).step (record { node = n; heap = v.heap })
+          (get_or leds k d).moved) node step.moved;
+      accepted = step.accepted;
+    })
 
 pub followed_then : (x : Quest) (old new : Visits) (place edge : ℕ) (v : Visit) (leds : List Led)
     → IsAt old.list.items place v → Grows (IsFrom place) old new

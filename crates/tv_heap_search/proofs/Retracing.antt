@@ -21,7 +21,9 @@ use Rattle.tv_replay_laws.proofs.JudgedRules.{judged_are_all}
 use Rattle.tv_replay_step.specs.Stepped.{IsMoved}
 use Rattle.tv_replay_step.specs.declared.moved.Moved.{Moved}
 use Rattle.tv_step_laws.specs.Sound.{IsHeapOfSome}
-use Rattle.tv_structure_form.specs.StructureForm.{StructureForm}
+use Rattle.std.specs.Prelude.{IfSome}
+use Rattle.tv_structure_form.specs.StructureForm.{StructureForm, IsStructure}
+use Rattle.tv_two_valued.specs.Laws.{IsOfProgram}
 use Rattle.tv_trace.specs.declared.trace.Move.{Move}
 use Rattle.tv_two_valued.specs.TwoValued.{heap_of}
 use Rattle.tv_witness_laws.specs.Laws.{IsClosedAim, ReplaysShowWitnesses}
@@ -31,7 +33,7 @@ use Rattle.tv_heap_steps.specs.Steps.{IsSmallHeap, IsUnbrokenBy, program_in}
 use Rattle.tv_heap_search.specs.Answers.{IsShortestWitness, IsShown}
 use Rattle.tv_heap_search.specs.Levels.{IsNearest}
 use Rattle.tv_heap_search.specs.Quests.{IsReadyQuest, aim_of, question_in}
-use Rattle.tv_heap_search.specs.Retraced.{IsTraceTo, heaps_of, moves_of, state_at}
+use Rattle.tv_heap_search.specs.Retraced.{HasValuesFor, IsTraceTo, heaps_of, moves_of, state_at}
 use Rattle.tv_heap_search.specs.Goals.{IsGoal}
 use Rattle.tv_heap_search.specs.Visited.{HasSteps, IsAt, IsOrigin, IsVisit, LeadsHere}
 use Rattle.tv_heap_search.specs.declared.quest.Quest.{Quest}
@@ -107,6 +109,7 @@ trace_first x list place v at visit e start same =
           (subst (λ (s : StructureForm). s.size ≤ x.walker.cells) (sym same) visit.heap.small)
           (All-nil (IsSmallState x.walker.cells));
       heaps = refl;
+      values = All-nil (HasValuesFor (program_in x.walker));
       visit = v;
       is_at = at;
       node = sym origin.0;
@@ -187,6 +190,9 @@ module _ (x : Quest) (list : List Visit) (place before : ℕ) (v : Visit) (step 
     unbroken = unbroken_push x.walker.mode (state_at w.start) trace.later y trace.unbroken leads.accepted.unbroken;
     small = All-push (IsSmallState x.walker.cells) (state_at w.start ∷ trace.later) y trace.small leads.accepted.small;
     heaps = heaps_more leg heaps_same;
+    values = subst (All (HasValuesFor p)) (sym (moves_more leg steps_same))
+        (All-push (HasValuesFor p) (moves_of w) step trace.values
+        (subst (λ (o : Option StructureForm). IfSome o (λ s. IsStructure s × IsOfProgram p s)) (sym leads.values) tt));
     visit = v;
     is_at = at;
     node = ap (λ (z : State). z.node) (last_push (state_at w.start) trace.later y) ∙ sym leads.node;
@@ -290,6 +296,7 @@ module _ (x : Quest) (target : Target) (valid : IsValid (program_in x.walker)) (
     begins = refl;
     number = refl;
     heaps = trace.heaps;
+    values = trace.values;
     accepted = record {
       initial = search rules;
       rules = with_first {P = MeetsRules} refl (λ z is. is) trace.rules;

@@ -18,7 +18,7 @@ use Rattle.tv_heaps.specs.Heaps.{IsHeapIn}
 use Rattle.tv_heap_steps.specs.Steps.{IsAcceptedMove, program_in}
 use Rattle.tv_heap_steps.specs.declared.along.Led.{Led}
 use Rattle.tv_heap_search.specs.Visited.{AreFirstMet, AreKnown, AreLedMet, AreMetOf, Grows, IsFirst, IsFollowedAt}
-use Rattle.tv_heap_search.specs.Visited.{IsFollowedFrom, IsFrom, IsSearch, LeaveFrom, places_of}
+use Rattle.tv_heap_search.specs.Visited.{IsFollowedFrom, IsFrom, IsLedFrom, IsSearch, LeaveFrom, places_of}
 use Rattle.tv_heap_search.specs.declared.quest.Quest.{Quest}
 use Rattle.tv_heap_search.specs.declared.visits.Origin.TheVariants.{Start}
 use Rattle.tv_heap_search.specs.declared.visits.Visit.{Visit}
@@ -52,11 +52,6 @@ first_next x valid s initial all so_far t first old new heaps among was grows ha
 
 -- ---- steps
 
-abbrev Leads : Quest → Visit → Led → Type 0
-Leads x b led =
-    IsMoved (program_in x.walker) led.step (record { node = b.node; heap = b.heap }) led.moved
-    × IsAcceptedMove (program_in x.walker) x.walker.mode x.walker.cells led.moved
-
 pub led_none : (x : Quest) (before : ℕ) (v : Visits) → IsSearch x v → AreLedMet x before [] v v
 led_none x before v kept = record {
   kept = kept;
@@ -70,26 +65,26 @@ module _ (x : Quest) (valid : IsValid (program_in x.walker)) (before : ℕ) (fir
   b : (v : Visit) × (slice_get first.list.items before ≡ Some v)
   b = some_at first.list.items before within
 
-  leads : Leads x b.0 led
-  leads = All-contains (Leads x b.0) all led (leave b.0 b.1) among
+  leads : IsLedFrom x b.0 led
+  leads = All-contains (IsLedFrom x b.0) all led (leave b.0 b.1) among
 
   pub led_unmarked : led.moved.heap.fresh ≡ None
-  led_unmarked = leads.0.moves.unmarked
+  led_unmarked = leads.is.moves.unmarked
 
   pub led_node : (old : Visits) → IsSearch x old → led.moved.node < length old.seen
   led_node old kept =
       subst (λ n. led.moved.node < n) (sym kept.nodes)
-      (subst (λ n. n < length (program_in x.walker).nodes) (sym leads.0.moves.node)
-      (All-contains (IsEdge (program_in x.walker)) (program_in x.walker).edges leads.0.moves.taken.edge valid.edges
-      (slice_get-contains (program_in x.walker).edges led.step.edge leads.0.moves.taken.edge
-      leads.0.moves.taken.its_edge)).1)
+      (subst (λ n. n < length (program_in x.walker).nodes) (sym leads.is.moves.node)
+      (All-contains (IsEdge (program_in x.walker)) (program_in x.walker).edges leads.is.moves.taken.edge valid.edges
+      (slice_get-contains (program_in x.walker).edges led.step.edge leads.is.moves.taken.edge
+      leads.is.moves.taken.its_edge)).1)
 
   pub led_next : (so_far : List Led) (old new : Visits) → AreLedMet x before so_far first old
       → Grows (λ v. v ≡ visit_by before led) old new
       → HasMet (places_of new.list.items) led.moved.node (heap_of led.moved.heap) → AreKnown new.seen new.list.items
       → length new.list.items ≤ x.most → AreLedMet x before (so_far ++ led ∷ []) first new
   led_next so_far old new was grows has known most =
-      one_led_more x valid before b.0 led leads.0 leads.1 so_far first old new was
+      one_led_more x valid before b.0 led leads so_far first old new was
       (at_on (IsFrom before) first old was.grows before b.0 b.1) grows has known most
 
 -- ---- all edges

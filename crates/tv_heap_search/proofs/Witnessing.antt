@@ -4,14 +4,15 @@ use Rattle.std.proofs.Common.{arith}
 use Rattle.std.proofs.lemmas.List.{length-replicate}
 use Rattle.std.proofs.lemmas.List.Elements.{All-weaker}
 use Rattle.std.proofs.lemmas.Option.{slice_get_within}
-use Rattle.tv_eval.specs.ScratchForm.{ScratchForm}
 use Rattle.tv_listing.specs.ListingForm.{at_node}
+use Rattle.tv_heap_steps.specs.Steps.{program_in}
+use Rattle.tv_model.specs.Valid.{IsValid}
 use Rattle.tv_model.proofs.Lists.{Contains-none}
 use Rattle.tv_structure_form.specs.StructureForm.{IsOver, StructureForm, arities_of}
 use Rattle.tv_witness_laws.specs.Laws.{ReplaysShowWitnesses}
 use Rattle.tv_heap_search.specs.Answers.{AnswersSearch, IsNumberAbove, IsShortestWitness}
 use Rattle.tv_heap_search.specs.Goals.{IsGoal}
-use Rattle.tv_heap_search.specs.Quests.{IsGoalOver, IsReadyQuest, question_in}
+use Rattle.tv_heap_search.specs.Quests.{IsGoalOver, question_in}
 use Rattle.tv_heap_search.specs.Retraced.{IsTraceTo}
 use Rattle.tv_heap_search.specs.Visited.{IsSearch}
 use Rattle.tv_heap_search.specs.declared.quest.Quest.{Quest}
@@ -41,19 +42,25 @@ search_none x n is v seen list = record {
       in absurd (omega (arith, lt, ap length list));
 }
 
-pub alike_over : (x : Quest) (room : ScratchForm) → IsReadyQuest x room → (list : List Visit) (place : ℕ) (w : Track)
-    → IsTraceTo x list place w → All (λ t. arities_of w.start ≡ arities_of t) x.initial.now
-alike_over x room ready list place w trace =
+pub alike_over : (x : Quest) → All (IsOver x.walker.ordered.program.now.vocab) x.initial.now
+    → (list : List Visit) (place : ℕ) (w : Track) → IsTraceTo x list place w
+    → All (λ t. arities_of w.start ≡ arities_of t) x.initial.now
+alike_over x initial list place w trace =
     All-weaker (IsOver x.walker.ordered.program.now.vocab) (λ t. arities_of w.start ≡ arities_of t)
-    (λ t over. trace.heap.over ∙ sym over) x.initial.now ready.initial
+    (λ t over. trace.heap.over ∙ sym over) x.initial.now initial
 
-pub witness_then : (x : Quest) (room : ScratchForm) → IsReadyQuest x room → (target : Target)
+-- the place of a goal is one
+pub goal_within : (x : Quest) (target : Target) (list : List Visit) (place : ℕ)
+    → AnswersSearch x target list (Some place) → place < length list
+goal_within x target list place ((v, at, goal), near) = slice_get_within list place v at
+
+pub witness_then : (x : Quest) → IsValid (program_in x.walker) → (target : Target)
     → IsGoalOver x.walker.ordered.program.now target.goal → (list : List Visit) (place : ℕ)
     → AnswersSearch x target list (Some place) → (w : Track) → IsTraceTo x list place w → (n : ℕ)
     → IsNumberAbove w.start x.initial.now n → ReplaysShowWitnesses
     → IsShortestWitness (question_in x target) (record { initial = n; track = w })
-witness_then x room ready target over list place (here, near) w trace n (c, above, is) show =
+witness_then x valid target over list place (here, near) w trace n (c, above, is) show =
     subst (λ k. IsShortestWitness (question_in x target) (record { initial = k; track = w })) (sym is)
-    (shortest x target ready.walk.valid list place w trace c above
+    (shortest x target valid list place w trace c above
     (λ v at. subst (IsGoal target) (at_once list place here.0 v here.1 at) here.2)
     (closed_aim x.walker.ordered.program.now target.goal over) show near)

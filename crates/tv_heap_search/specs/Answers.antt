@@ -15,7 +15,7 @@ use Rattle.tv_witness_laws.specs.Witness.{HasWitness, IsAimedAt, IsWitness, Ques
 use Rattle.tv_heap_steps.specs.Settled.{AreAllSettled}
 use Rattle.tv_heap_search.specs.Goals.{HasGoal}
 use Rattle.tv_heap_search.specs.Levels.{IsNearest}
-use Rattle.tv_heap_search.specs.Retraced.{heaps_of, moves_of}
+use Rattle.tv_heap_search.specs.Retraced.{HasValuesFor, heaps_of, moves_of}
 use Rattle.tv_heap_search.specs.Quests.{question_in}
 use Rattle.tv_heap_search.specs.declared.quest.Quest.{Quest}
 use Rattle.tv_heap_search.specs.declared.quest.Target.{Target}
@@ -49,6 +49,7 @@ pub record IsShown (q : Question) (w : Witness) (first : State) (later : List St
   pub begins : first.initial ≡ Some above
   pub number : w.initial ≡ above.structure
   pub heaps : heaps_of w.track ≡ map (λ (z : State). z.heap) later
+  pub values : All (HasValuesFor q.program) (moves_of w.track)
   pub accepted : IsAcceptedReplay q.mode first later
   pub small : All (IsSmallState q.cells) (first ∷ later)
   pub node : (last_shown first later).node ≡ q.node

@@ -56,6 +56,7 @@ pub record LeadsHere (x : Quest) (b v : Visit) (step : Move) : Type 0 where
   pub moved : Moved
   pub node : v.node ≡ moved.node
   pub heap : v.heap ≡ moved.heap
+  pub values : step.values ≡ None
   pub is : IsMoved (program_in x.walker) step (record { node = b.node; heap = b.heap }) moved
   pub accepted : IsAcceptedMove (program_in x.walker) x.walker.mode x.walker.cells moved
 
@@ -129,6 +130,7 @@ AreMetOf x list s =
 
 -- it is a step from the heap that was met at the place, with the first rule that isn't met after it
 pub record IsLedFrom (x : Quest) (b : Visit) (led : Led) : Type 0 where
+  pub values : led.step.values ≡ None
   pub is : IsMoved (program_in x.walker) led.step (record { node = b.node; heap = b.heap }) led.moved
   pub small : led.moved.heap.size ≤ x.walker.cells
   pub rule : IsFirstUnmet (heap_of led.moved.heap) (judged_rules (program_in x.walker)) led.rule

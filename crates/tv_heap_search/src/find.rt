@@ -54,7 +54,8 @@ pub(crate) fn nearest(
 {
     searches_end();
     witnesses_are_long();
-    first_goal(x, target, visits.list.as_slice(), 0, scratch)
+    let place = first_goal(x, target, visits.list.as_slice(), 0, scratch)?;
+    Ok(place)
 }
 
 /// The place of a goal that is met in as few steps as any; none where there is no witness.

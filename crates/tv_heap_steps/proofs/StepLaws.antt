@@ -281,6 +281,7 @@ module _ (walker : Walker) (room : ScratchForm) (ready : IsReadyToWalk walker ro
         taken = taken;
         its_edge = its_edge;
         is_edge = ap (λ (m : Move). m.edge) step ∙ by.edge_is;
+        values = ap (λ (m : Move). m.values) step ∙ by.values_are;
         moved = subst (λ (m : Move). IsMoved (program_in walker) m at led.moved) (sym step)
             (subst (IsMoved (program_in walker) move at) (sym moved) made);
         small = subst (λ (m : Moved). m.heap.size ≤ walker.cells) (sym moved) few;

@@ -73,6 +73,7 @@ pub record IsSmallStep (walker : Walker) (edge : ℕ) (s : StructureForm) (led :
   pub taken : Edge
   pub its_edge : slice_get (program_in walker).edges edge ≡ Some taken
   pub is_edge : led.step.edge ≡ edge
+  pub values : led.step.values ≡ None
   pub moved : IsMoved (program_in walker) led.step (record { node = taken.from; heap = s }) led.moved
   pub small : led.moved.heap.size ≤ walker.cells
   pub rule : IsFirstUnmet (heap_of led.moved.heap) (judged_rules (program_in walker)) led.rule

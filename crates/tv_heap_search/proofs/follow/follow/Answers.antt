@@ -1,7 +1,7 @@
 use Rattle.std.proofs.Common.{arith, subst}
 use Rattle.tv_heap_search.specs.Visited.{IsFrom}
 use Rattle.tv_heap_search.proofs.Growing.{grows_none, grows_on, longer_on}
-use Rattle.tv_heap_search.proofs.Turning.{edge_next, passed_here}
+use Rattle.tv_heap_search.proofs.Turning.{edge_next, followed_here}
 use Rattle.tv_heap_search.proofs.follow.follow.Goals as goal
 
 pub loop-edge-init : goal.loop-edge-init
