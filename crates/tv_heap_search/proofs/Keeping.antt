@@ -2,7 +2,7 @@
 use Rattle.std.proofs.Common.{ℕ, ◌≡◌, ◌<◌, ◌≤◌, ◌⊎◌, inl, inr, List, [], ◌∷◌, ◌++◌, length, map, Some, None, All}
 use Rattle.std.proofs.Common.{Contains, get_or, refl, sym, ap, subst, ◌∙◌, arith}
 use Rattle.std.specs.Prelude.{slice_get}
-use Rattle.std.proofs.lemmas.List.Elements.{All-contains, Contains-push_cases}
+use Rattle.std.proofs.lemmas.List.Elements.{All-contains, All-weaker, Contains-push_cases}
 use Rattle.std.proofs.lemmas.Option.{same_Some, slice_get_within}
 use Rattle.tv_embedding_laws.specs.Embedding.{IsHeapOf}
 use Rattle.tv_lemmas.proofs.Lists.{some_at, still_at}
@@ -16,25 +16,27 @@ use Rattle.tv_model.specs.Valid.{IsEdge, IsValid}
 use Rattle.tv_model.proofs.Lists.{slice_get-contains}
 use Rattle.tv_model.proofs.Parts.{arities-same, start-node}
 use Rattle.tv_replay_step.specs.Stepped.{IsMoved}
-use Rattle.tv_start_laws.proofs.Copying.{copies-onward}
+use Rattle.tv_replay_laws.specs.JudgedRules.{IsFirstUnmet, judged_rules}
+use Rattle.tv_start_laws.proofs.Copying.{copies-onward, copy-itself}
 use Rattle.tv_structure_form.specs.StructureForm.{StructureForm, structure_of}
 use Rattle.tv_trace.specs.declared.trace.Move.{Move}
 use Rattle.tv_two_valued.specs.TwoValued.{heap_of}
 use Rattle.tv_witness_laws.specs.Search.{HasMet}
 use Rattle.tv_witness_laws.specs.Witness.{HasFewCells}
 use Rattle.tv_heaps.specs.Heaps.{AreHeapsIn, IsHeapIn}
-use Rattle.tv_heap_steps.specs.Steps.{AreAllSteps, IsSmallHeap, IsSmallStep, program_in}
+use Rattle.tv_heap_steps.specs.Steps.{AreAllSteps, IsAcceptedMove, IsFairMove, IsSmallHeap, IsSmallStep, program_in}
 use Rattle.tv_heap_steps.specs.declared.along.Led.{Led}
 use Rattle.tv_heap_search.specs.Quests.{IsReadyQuest}
 use Rattle.tv_heap_search.specs.Visited.{AreFirstMet, AreKnown, AreLedMet, AreMetOf, Grows, IsAt, IsFirst}
 use Rattle.tv_heap_search.specs.Visited.{IsFollowedAlong}
-use Rattle.tv_heap_search.specs.Visited.{IsFollowedFrom, IsFrom, IsLedFrom, IsOrigin, IsSearch, IsVisit, LeaveFrom, places_of}
+use Rattle.tv_heap_search.specs.Visited.{IsFollowedFrom, IsFrom, IsLedFrom, IsLedMet, IsOrigin, IsSearch, IsVisit, LeavesFrom}
+use Rattle.tv_heap_search.specs.Visited.{places_of}
 use Rattle.tv_heap_search.specs.declared.quest.Quest.{Quest}
 use Rattle.tv_heap_search.specs.declared.visits.Origin.{Origin}
 use Rattle.tv_heap_search.specs.declared.visits.Origin.TheVariants.{Start, Step}
 use Rattle.tv_heap_search.specs.declared.visits.Visit.{Visit}
 use Rattle.tv_heap_search.specs.declared.visits.Visits.{Visits}
-use Rattle.tv_heap_search.proofs.Growing.{at_cases, at_on, at_once, grows_on, grows_weaker, met_on}
+use Rattle.tv_heap_search.proofs.Growing.{at_cases, at_on, at_once, grows_none, grows_on, grows_weaker, met_on}
 
 -- ---- searches
 
@@ -140,9 +142,16 @@ visit_by before led = record {
 }
 
 module _ (x : Quest) (valid : IsValid (program_in x.walker)) (before : ℕ) (b : Visit) (led : Led)
-    (from : IsLedFrom x b led) where
+    (from : IsLedFrom x b led) (fair : IsFairMove x.walker.mode led) where
   moved : IsMoved (program_in x.walker) led.step (record { node = b.node; heap = b.heap }) led.moved
   moved = from.is
+
+  accepted : IsAcceptedMove (program_in x.walker) x.walker.mode x.walker.cells led.moved
+  accepted = record {
+    small = from.small;
+    unbroken = fair.0;
+    rules = subst (IsFirstUnmet (heap_of led.moved.heap) (judged_rules (program_in x.walker))) fair.1 from.rule;
+  }
 
   led_visit : (list : List Visit) → before < length list → IsAt list before b → IsSmallHeap x.walker b.heap
       → IsVisit x list (length list) (visit_by before led)
@@ -152,71 +161,99 @@ module _ (x : Quest) (valid : IsValid (program_in x.walker)) (before : ℕ) (b :
       over = moved.moves.next.over ∙ small.over;
       unmarked = moved.moves.unmarked;
       two_valued = moved.moves.next.two_valued;
-      small = from.accepted.small;
+      small = from.small;
     };
     node = subst (λ n. n < length x.walker.ordered.program.now.nodes) (sym moved.moves.node)
         (All-contains (IsEdge (program_in x.walker)) (program_in x.walker).edges moved.moves.taken.edge valid.edges
         (slice_get-contains (program_in x.walker).edges led.step.edge moved.moves.taken.edge moved.moves.taken.its_edge)).1;
     origin = (
       within,
-      (b, at, record { moved = led.moved; node = refl; heap = refl; values = from.values; is = moved; accepted = from.accepted }),
+      (b, at, record { moved = led.moved; node = refl; heap = refl; values = from.values; is = moved; accepted = accepted }),
     );
   }
 
-  module _ (so_far : List Led) (first old new : Visits) (was : AreLedMet x before so_far first old)
-      (at : IsAt old.list.items before b) (grows : Grows (λ v. v ≡ visit_by before led) old new) where
-    pub one_led_more : HasMet (places_of new.list.items) led.moved.node (heap_of led.moved.heap)
-        → AreKnown new.seen new.list.items → length new.list.items ≤ x.most
-        → AreLedMet x before (so_far ++ led ∷ []) first new
-    one_led_more has known within = record {
-      kept = search_more x (λ v. v ≡ visit_by before led) old new was.kept grows
+  -- it is met
+  module _ (old new : Visits) (kept : IsSearch x old) (at : IsAt old.list.items before b)
+      (grows : Grows (λ v. v ≡ visit_by before led) old new) where
+    pub led_met : HasMet (places_of new.list.items) led.moved.node (heap_of led.moved.heap)
+        → AreKnown new.seen new.list.items → length new.list.items ≤ x.most → IsLedMet x before led old new
+    led_met has known within = record {
+      kept = search_more x (λ v. v ≡ visit_by before led) old new kept grows
           (λ v e. subst (IsVisit x old.list.items (length old.list.items)) (sym e)
-          (led_visit old.list.items (slice_get_within old.list.items before b at) at (was.kept.visits before b at).heap))
+          (led_visit old.list.items (slice_get_within old.list.items before b at) at (kept.visits before b at).heap))
           known within;
-      grows = grows_on (IsFrom before) first old new was.grows
-          (grows_weaker (λ v. v ≡ visit_by before led) (IsFrom before)
-          (λ v e. (led.step, ap (λ (w : Visit). w.origin) e)) old new grows);
-      met = λ other among. by other (Contains-push_cases so_far led other among);
+      grows = grows_weaker (λ v. v ≡ visit_by before led) (IsFrom before)
+          (λ v e. (led.step, ap (λ (w : Visit). w.origin) e)) old new grows;
+      met = λ also. has;
     }
-      where
-        by : (other : Led) → Contains so_far other ⊎ (led ≡ other)
-            → HasMet (places_of new.list.items) other.moved.node (heap_of other.moved.heap)
-        by other (inl before') =
-            met_on (λ v. v ≡ visit_by before led) old new grows other.moved.node (heap_of other.moved.heap)
-            (was.met other before')
-        by other (inr e) =
-            subst (λ (y : Led). HasMet (places_of new.list.items) y.moved.node (heap_of y.moved.heap)) e has
+
+-- it isn't met, since something speaks against it
+pub led_passed : (x : Quest) (before : ℕ) (led : Led) (v : Visits) → IsSearch x v → (IsFairMove x.walker.mode led → ⊥)
+    → IsLedMet x before led v v
+led_passed x before led v kept unfair = record {
+  kept = kept;
+  grows = grows_none (IsFrom before) v;
+  met = λ fair. absurd (unfair fair);
+}
+
+-- one more was met, or passed
+pub one_led_more : (x : Quest) (before : ℕ) (so_far : List Led) (led : Led) (first old new : Visits)
+    → AreLedMet x before so_far first old → IsLedMet x before led old new
+    → AreLedMet x before (so_far ++ led ∷ []) first new
+one_led_more x before so_far led first old new was one = record {
+  kept = one.kept;
+  grows = grows_on (IsFrom before) first old new was.grows one.grows;
+  met = λ other among fair. by other fair (Contains-push_cases so_far led other among);
+}
+  where
+    by : (other : Led) → IsFairMove x.walker.mode other → Contains so_far other ⊎ (led ≡ other)
+        → HasMet (places_of new.list.items) other.moved.node (heap_of other.moved.heap)
+    by other fair (inl before') =
+        met_on (IsFrom before) old new one.grows other.moved.node (heap_of other.moved.heap) (was.met other before' fair)
+    by other fair (inr e) =
+        subst (λ (y : Led). HasMet (places_of new.list.items) y.moved.node (heap_of y.moved.heap)) e
+        (one.met (subst (IsFairMove x.walker.mode) (sym e) fair))
 
 -- ---- what is followed along an edge
 
 pub steps_leave : (x : Quest) (list : List Visit) (place edge : ℕ) (v : Visit) (leds : List Led) (taken : Edge)
     → IsAt list place v → slice_get (program_in x.walker).edges edge ≡ Some taken → taken.from ≡ v.node
-    → All (IsSmallStep x.walker edge v.heap) leds → LeaveFrom x list place leds
-steps_leave x list place edge v leds taken at its_edge leaves each b there k d within =
-    let step = each k d within
-    in let same : taken ≡ step.taken = same_Some taken step.taken (sym its_edge ∙ step.its_edge)
-    in let node : step.taken.from ≡ v.node = ap (λ (e : Edge). e.from) (sym same) ∙ leaves
-    in let is : v ≡ b = at_once list place v b at there
-    in subst (λ (w : Visit). IsLedFrom x w (get_or leds k d)) is
-    (record {
-      values = step.values;
-      is = subst (λ n. IsMoved (program_in x.walker) (get_or leds k d).step (record { node = n; heap = v.heap })
-          (get_or leds k d).moved) node step.moved;
-      accepted = step.accepted;
-    })
+    → All (IsSmallStep x.walker edge v.heap) leds → All (LeavesFrom x list place) leds
+steps_leave x list place edge v leds taken at its_edge leaves each =
+    All-weaker (IsSmallStep x.walker edge v.heap) (LeavesFrom x list place) leaves-here leds each
+  where
+    leaves-here : (led : Led) → IsSmallStep x.walker edge v.heap led → LeavesFrom x list place led
+    leaves-here led step =
+        let same : taken ≡ step.taken = same_Some taken step.taken (sym its_edge ∙ step.its_edge)
+        in let node : step.taken.from ≡ v.node = ap (λ (e : Edge). e.from) (sym same) ∙ leaves
+        in (
+          v,
+          at,
+          record {
+            values = step.values;
+            is = subst (λ n. IsMoved (program_in x.walker) led.step (record { node = n; heap = v.heap }) led.moved) node
+                step.moved;
+            small = step.small;
+            rule = step.rule;
+          },
+        )
 
 pub followed_then : (x : Quest) (old new : Visits) (place edge : ℕ) (v : Visit) (leds : List Led)
     → IsAt old.list.items place v → Grows (IsFrom place) old new
     → All (IsSmallStep x.walker edge v.heap) leds → AreAllSteps x.walker edge v.heap leds
-    → ((led : Led) → Contains leds led → HasMet (places_of new.list.items) led.moved.node (heap_of led.moved.heap))
+    → ((led : Led) → Contains leds led → IsFairMove x.walker.mode led
+    → HasMet (places_of new.list.items) led.moved.node (heap_of led.moved.heap))
     → IsFollowedFrom x new.list.items place edge
 followed_then x old new place edge v leds at grows each all met w there taken its_edge leaves h step few =
     let is : v ≡ w = at_once new.list.items place v w (at_on (IsFrom place) old new grows place v at) there
-    in let led = all taken its_edge h
-    (subst (λ (y : Visit). FairStep (program_in x.walker) x.walker.mode taken (heap_of y.heap) h) (sym is) step) few
+    in let own : FairStep (program_in x.walker) x.walker.mode taken (heap_of v.heap) h
+    = subst (λ (y : Visit). FairStep (program_in x.walker) x.walker.mode taken (heap_of y.heap) h) (sym is) step
+    in let fair = own.fair.1
+    in let led = all taken its_edge own.action own.its_action (heap_of v.heap)
+    (λ u. u, λ u. u, copy-itself (heap_of v.heap)) own.picked own.fair.0 h fair.step few
     in let one : IsSmallStep x.walker edge v.heap led.0
     = All-contains (IsSmallStep x.walker edge v.heap) leds led.0 each led.1
-    in let place' = met led.0 led.1
+    in let place' = met led.0 led.1 (led.3.1 (record { given = fair.given; meets = fair.new_meets }))
     in let same : one.moved.moves.taken.edge ≡ taken
     = same_Some one.moved.moves.taken.edge taken
     (sym one.moved.moves.taken.its_edge ∙ ap (slice_get (program_in x.walker).edges) one.is_edge ∙ its_edge)

@@ -18,13 +18,13 @@ use Rattle.tv_heaps.specs.Heaps.{IsHeapIn}
 use Rattle.tv_heap_steps.specs.Steps.{IsAcceptedMove, program_in}
 use Rattle.tv_heap_steps.specs.declared.along.Led.{Led}
 use Rattle.tv_heap_search.specs.Visited.{AreFirstMet, AreKnown, AreLedMet, AreMetOf, Grows, IsFirst, IsFollowedAt}
-use Rattle.tv_heap_search.specs.Visited.{IsFollowedFrom, IsFrom, IsLedFrom, IsSearch, LeaveFrom, places_of}
+use Rattle.tv_heap_search.specs.Visited.{IsFollowedFrom, IsFrom, IsSearch, LeavesFrom, places_of}
 use Rattle.tv_heap_search.specs.declared.quest.Quest.{Quest}
 use Rattle.tv_heap_search.specs.declared.visits.Origin.TheVariants.{Start}
 use Rattle.tv_heap_search.specs.declared.visits.Visit.{Visit}
 use Rattle.tv_heap_search.specs.declared.visits.Visits.{Visits}
 use Rattle.tv_heap_search.proofs.Growing.{at_cases, at_on, grows_none}
-use Rattle.tv_heap_search.proofs.Keeping.{followed_from_on, met_of_on, one_first_more, one_led_more, visit_by}
+use Rattle.tv_heap_search.proofs.Keeping.{followed_from_on, met_of_on, one_first_more}
 
 -- ---- start heaps
 
@@ -59,33 +59,24 @@ led_none x before v kept = record {
   met = λ led has. absurd (Contains-none led has);
 }
 
-module _ (x : Quest) (valid : IsValid (program_in x.walker)) (before : ℕ) (first : Visits)
-    (within : before < length first.list.items) (all : List Led)
-    (leave : LeaveFrom x first.list.items before all) (led : Led) (among : Contains all led) where
-  b : (v : Visit) × (slice_get first.list.items before ≡ Some v)
-  b = some_at first.list.items before within
+-- where a step leads that is made from what was met at the place
+pub led_unmarked : (x : Quest) (list : List Visit) (before : ℕ) (led : Led) → LeavesFrom x list before led
+    → led.moved.heap.fresh ≡ None
+led_unmarked x list before led (b, at, from) = from.is.moves.unmarked
 
-  leads : IsLedFrom x b.0 led
-  leads = All-contains (IsLedFrom x b.0) all led (leave b.0 b.1) among
+pub led_node : (x : Quest) → IsValid (program_in x.walker) → (list : List Visit) (before : ℕ) (led : Led)
+    → LeavesFrom x list before led → (old : Visits) → IsSearch x old → led.moved.node < length old.seen
+led_node x valid list before led (b, at, from) old kept =
+    subst (λ n. led.moved.node < n) (sym kept.nodes)
+    (subst (λ n. n < length (program_in x.walker).nodes) (sym from.is.moves.node)
+    (All-contains (IsEdge (program_in x.walker)) (program_in x.walker).edges from.is.moves.taken.edge valid.edges
+    (slice_get-contains (program_in x.walker).edges led.step.edge from.is.moves.taken.edge
+    from.is.moves.taken.its_edge)).1)
 
-  pub led_unmarked : led.moved.heap.fresh ≡ None
-  led_unmarked = leads.is.moves.unmarked
-
-  pub led_node : (old : Visits) → IsSearch x old → led.moved.node < length old.seen
-  led_node old kept =
-      subst (λ n. led.moved.node < n) (sym kept.nodes)
-      (subst (λ n. n < length (program_in x.walker).nodes) (sym leads.is.moves.node)
-      (All-contains (IsEdge (program_in x.walker)) (program_in x.walker).edges leads.is.moves.taken.edge valid.edges
-      (slice_get-contains (program_in x.walker).edges led.step.edge leads.is.moves.taken.edge
-      leads.is.moves.taken.its_edge)).1)
-
-  pub led_next : (so_far : List Led) (old new : Visits) → AreLedMet x before so_far first old
-      → Grows (λ v. v ≡ visit_by before led) old new
-      → HasMet (places_of new.list.items) led.moved.node (heap_of led.moved.heap) → AreKnown new.seen new.list.items
-      → length new.list.items ≤ x.most → AreLedMet x before (so_far ++ led ∷ []) first new
-  led_next so_far old new was grows has known most =
-      one_led_more x valid before b.0 led leads so_far first old new was
-      (at_on (IsFrom before) first old was.grows before b.0 b.1) grows has known most
+-- the place is still that of the same visit
+pub leaves_on : (x : Quest) (P : Visit → Type 0) (old new : Visits) → Grows P old new → (before : ℕ) (led : Led)
+    → LeavesFrom x old.list.items before led → LeavesFrom x new.list.items before led
+leaves_on x P old new grows before led (b, at, from) = (b, at_on P old new grows before b at, from)
 
 -- ---- all edges
 
