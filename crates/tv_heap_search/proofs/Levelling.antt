@@ -25,6 +25,7 @@ use Rattle.tv_witness_laws.specs.Search.{HasMet, IsExhaustive, IsExhaustiveTo, M
 use Rattle.tv_witness_laws.specs.Witness.{HasFewCells, HasWitness, IsAimedAt, IsWitness, Question}
 use Rattle.tv_heap_steps.specs.Steps.{program_in}
 use Rattle.tv_heap_search.specs.Answers.{AnswersSearch}
+use Rattle.tv_heap_search.specs.Breaches.{runs_in}
 use Rattle.tv_heap_search.specs.Goals.{HasNoGoal, IsFirstGoalFrom, IsGoal}
 use Rattle.tv_heap_search.specs.Levels.{AreAllStarted, IsExplored, IsLevel, IsNearest, StandsBefore}
 use Rattle.tv_heap_search.specs.Quests.{aim_of, question_in}
@@ -386,41 +387,50 @@ module _ (x : Quest) (target : Target) (list : List Visit) (from depth : ℕ) (l
   pub goal_nearest : (place : ℕ) → HasNoGoal target list 0 place → IsNearest x target list place
   goal_nearest place none start stages w steps has = none-shorter place none steps has steps refl start stages w
 
--- ---- no goal
+-- ---- all that was met is followed
 
-pub level_none : (x : Quest) (target : Target) (s : Visits) → IsSearch x s → (from depth : ℕ)
-    → IsLevel x s.list.items from depth → length s.list.items ≤ from → HasNoGoal target s.list.items 0 from
-    → IsValid (program_in x.walker) → IsClosedAim (aim_of target.goal) → SearchesEnd
-    → ¬ HasWitness (question_in x target)
-level_none x target s kept from depth level past none valid closed ends =
-    (ends (question_in x target) valid (places_of s.list.items) exhaustive).none closed no_goal
-  where
-    standing-at : (place : Place) → Contains (places_of s.list.items) place
-        → (i : ℕ) × (v : Visit) × (i < from) × IsAt s.list.items i v × (place_of v ≡ place)
-    standing-at place has =
-        let from' = place_at s.list.items place has
-        in let within : from'.0 < length s.list.items = slice_get_within s.list.items from'.0 from'.1 from'.2
-        in (from'.0, from'.1, omega (arith, within, past), from'.2, from'.3)
+module _ (x : Quest) (s : Visits) (kept : IsSearch x s) (from depth : ℕ) (level : IsLevel x s.list.items from depth)
+    (past : length s.list.items ≤ from) where
+  standing-at : (place : Place) → Contains (places_of s.list.items) place
+      → (i : ℕ) × (v : Visit) × (i < from) × IsAt s.list.items i v × (place_of v ≡ place)
+  standing-at place has =
+      let from' = place_at s.list.items place has
+      in let within : from'.0 < length s.list.items = slice_get_within s.list.items from'.0 from'.1 from'.2
+      in (from'.0, from'.1, omega (arith, within, past), from'.2, from'.3)
 
-    exhaustive : IsExhaustive (question_in x target) (places_of s.list.items)
-    exhaustive = record {
-      heaps = met_heaps x s kept;
-      starts = level.starts;
-      steps = λ place has edge known leaves h step few.
+  steps-met : (place : Place) → Contains (places_of s.list.items) place → (edge : Edge)
+      → Contains (program_in x.walker).edges edge → edge.from ≡ place.node → (new : Heap)
+      → FairStep (program_in x.walker) x.walker.mode edge place.heap new → HasFewCells x.walker.cells new
+      → HasMet (places_of s.list.items) edge.to new
+  steps-met place has edge known leaves h step few =
+      let v = standing-at place has
+      in let number = found_at (program_in x.walker).edges edge known
+      in level.followed v.0 (omega arith) v.2 v.1 v.3 number.0 edge number.1
+      (leaves ∙ ap (λ (p : Place). p.node) (sym v.4)) h
+      (subst (λ (p : Place). FairStep (program_in x.walker) x.walker.mode edge p.heap h) (sym v.4) step) few
+
+  exhaustive-all : (target : Target) → IsExhaustive (question_in x target) (places_of s.list.items)
+  exhaustive-all target = record { heaps = met_heaps x s kept; starts = level.starts; steps = steps-met }
+
+  exhaustive-runs : IsExhaustive (runs_in x) (places_of s.list.items)
+  exhaustive-runs = record { heaps = met_heaps x s kept; starts = level.starts; steps = steps-met }
+
+  pub level_none : (target : Target) → HasNoGoal target s.list.items 0 from → IsValid (program_in x.walker)
+      → IsClosedAim (aim_of target.goal) → SearchesEnd → ¬ HasWitness (question_in x target)
+  level_none target none valid closed ends =
+      (ends (question_in x target) valid (places_of s.list.items) (exhaustive-all target)).none closed no_goal
+    where
+      no_goal : MeetsNoGoal (question_in x target) (places_of s.list.items)
+      no_goal place has node aimed =
           let v = standing-at place has
-          in let number = found_at (program_in x.walker).edges edge known
-          in level.followed v.0 (omega arith) v.2 v.1 v.3 number.0 edge number.1
-          (leaves ∙ ap (λ (p : Place). p.node) (sym v.4)) h
-          (subst (λ (p : Place). FairStep (program_in x.walker) x.walker.mode edge p.heap h) (sym v.4) step) few;
-    }
+          in none v.0 v.1 (omega arith) v.2 v.3 (
+            ap (λ (p : Place). p.node) v.4 ∙ node,
+            subst (λ (p : Place). IsAimedAt (aim_of target.goal) p.heap) (sym v.4) aimed,
+          )
 
-    no_goal : MeetsNoGoal (question_in x target) (places_of s.list.items)
-    no_goal place has node aimed =
-        let v = standing-at place has
-        in none v.0 v.1 (omega arith) v.2 v.3 (
-          ap (λ (p : Place). p.node) v.4 ∙ node,
-          subst (λ (p : Place). IsAimedAt (aim_of target.goal) p.heap) (sym v.4) aimed,
-        )
+pub all_met : (x : Quest) (s : Visits) → IsSearch x s → IsExplored x s.list.items
+    → IsExhaustive (runs_in x) (places_of s.list.items)
+all_met x s kept explored = exhaustive-runs x s kept explored.from explored.depth explored.level explored.all
 
 -- the first goal of what was wholly explored is a nearest one; where there is none, there is no witness
 pub nearest_answer : (x : Quest) (target : Target) (s : Visits) → IsSearch x s → IsExplored x s.list.items
@@ -431,7 +441,7 @@ nearest_answer x target s kept explored valid closed ends long (Some place) (goa
   goal_nearest x target s.list.items explored.from explored.depth explored.level valid closed long place none,
 )
 nearest_answer x target s kept explored valid closed ends long None none =
-    level_none x target s kept explored.from explored.depth explored.level explored.all
+    level_none x s kept explored.from explored.depth explored.level explored.all target
     (λ place v le less at. none place v le (slice_get_within s.list.items place v at) at) valid closed ends
 
 -- no goal stands before `to`

@@ -11,3 +11,4 @@ pub mod Witnessing
 pub mod Preparing
 pub mod Fewer
 pub mod Finding
+pub mod Breaking

@@ -12,7 +12,7 @@ use Rattle.tv_model.specs.Valid.{IsValid}
 use Rattle.tv_model.proofs.Parts.{arities-same}
 use Rattle.tv_replay_laws.specs.Above.{IsFirstAbove, IsNotAbove}
 use Rattle.tv_replay_laws.specs.Runs.{IsUnbroken, MeetsRules}
-use Rattle.tv_replay_laws.specs.States.{AreNextStates, IsNextState, standing}
+use Rattle.tv_replay_laws.specs.States.{AreNextStates, IsFirstState, IsNextState, standing}
 use Rattle.tv_replay_laws.specs.Stuck.{Standing}
 use Rattle.tv_replay_laws.specs.JudgedRules.{judged_rules}
 use Rattle.tv_replay_laws.specs.declared.state.ListedCover.{ListedCover}
@@ -31,6 +31,7 @@ use Rattle.tv_witness_laws.specs.Replays.{IsAcceptedReplay, IsSmallState, IsUnbr
 use Rattle.tv_witness_laws.specs.Witness.{IsAimedAt}
 use Rattle.tv_heap_steps.specs.Steps.{IsSmallHeap, IsUnbrokenBy, program_in}
 use Rattle.tv_heap_search.specs.Answers.{IsShortestWitness, IsShown}
+use Rattle.tv_heap_search.specs.Breaches.{extended}
 use Rattle.tv_heap_search.specs.Levels.{IsNearest}
 use Rattle.tv_heap_search.specs.Quests.{IsReadyQuest, aim_of, question_in}
 use Rattle.tv_heap_search.specs.Retraced.{HasValuesFor, IsTraceTo, heaps_of, moves_of, state_at}
@@ -47,7 +48,7 @@ use Rattle.tv_heap_search.proofs.Growing.{at_once}
 
 -- ---- one state more
 
-next_push : (p : ProgramForm) (listing : List (List StructureForm)) (first : State) (moves : List Move) (later : List State)
+pub next_push : (p : ProgramForm) (listing : List (List StructureForm)) (first : State) (moves : List Move) (later : List State)
     (move : Move) (y : State) → AreNextStates p listing first moves later
     → IsNextState p listing move (last_shown first later) y
     → AreNextStates p listing first (moves ++ move ∷ []) (later ++ y ∷ [])
@@ -75,9 +76,10 @@ step_of leg = leg.step
 abbrev heap_at : Leg → StructureForm
 heap_at leg = leg.heap
 
--- the run goes on by these steps
-abbrev pub extended : Track → List Leg → Track
-extended w legs = record { start = w.start; legs = w.legs ++ legs }
+-- where a state stands
+pub stands_at : (z : State) (node : ℕ) (s : StructureForm) → z.node ≡ node → z.heap ≡ s
+    → standing z ≡ record { node = node; heap = s }
+stands_at z node s n h = rw (n, h) refl
 
 -- the state to which a move leads
 abbrev state_of : Moved → State
@@ -143,14 +145,10 @@ module _ (x : Quest) (list : List Visit) (place before : ℕ) (v : Visit) (step 
   same_visit : trace.visit ≡ b
   same_visit = at_once list before trace.visit b trace.is_at origin.1.1
 
-  stands : (node : ℕ) (s : StructureForm) → last.node ≡ node → last.heap ≡ s
-      → standing last ≡ record { node = node; heap = s }
-  stands node s n h = rw (n, h) refl
-
   moved : IsMoved p step (standing last) leads.moved
   moved =
       subst (λ (at' : Standing). IsMoved p step at' leads.moved)
-      (sym (stands b.node b.heap (trace.node ∙ ap (λ (u : Visit). u.node) same_visit)
+      (sym (stands_at last b.node b.heap (trace.node ∙ ap (λ (u : Visit). u.node) same_visit)
       (trace.ends ∙ ap (λ (u : Visit). u.heap) same_visit))) leads.is
 
   abbrev y : State
@@ -228,7 +226,7 @@ origin_below x list place before v step visit e = (subst (IsOrigin x list place 
 -- ---- the witness
 
 -- what comes after a state depends on its heap and its node alone
-other_first : (p : ProgramForm) (listing : List (List StructureForm)) (s : StructureForm) (c : Option ListedCover)
+pub other_first : (p : ProgramForm) (listing : List (List StructureForm)) (s : StructureForm) (c : Option ListedCover)
     (moves : List Move) (later : List State) → AreNextStates p listing (state_at s) moves later
     → AreNextStates p listing (record (state_at s) { initial = c }) moves later
 other_first p listing s c [] [] nexts = tt
@@ -247,9 +245,16 @@ last_heap-same : (s : StructureForm) (c : Option ListedCover) (later : List Stat
 last_heap-same s c [] = refl
 last_heap-same s c (z ∷ later) = refl
 
-module _ (x : Quest) (target : Target) (valid : IsValid (program_in x.walker)) (list : List Visit) (place : ℕ)
-    (w : Track) (trace : IsTraceTo x list place w) (c : ListedCover) (above : IsFirstAbove w.start x.initial.now (Some c))
-    (goal : (v : Visit) → IsAt list place v → IsGoal target v) where
+-- what is known of the first state, and of those behind it
+pub record Opened (x : Quest) (w : Track) (c : ListedCover) (later : List State) : Type 0 where
+  pub begins : IsFirstState (program_in x.walker) x.initial.now w.start []
+      (record (state_at w.start) { initial = Some c })
+  pub accepted : IsAcceptedReplay x.walker.mode (record (state_at w.start) { initial = Some c }) later
+  pub small : All (IsSmallState x.walker.cells) (record (state_at w.start) { initial = Some c } ∷ later)
+
+module _ (x : Quest) (valid : IsValid (program_in x.walker)) (list : List Visit) (place : ℕ)
+    (w : Track) (trace : IsTraceTo x list place w) (c : ListedCover)
+    (above : IsFirstAbove w.start x.initial.now (Some c)) where
   abbrev first : State
   first = record (state_at w.start) { initial = Some c }
 
@@ -258,17 +263,46 @@ module _ (x : Quest) (target : Target) (valid : IsValid (program_in x.walker)) (
   with_first {P} one to all =
       All-cons P first trace.later (to (state_at w.start) one) (All-tail P (state_at w.start) trace.later all)
 
-  abbrev is_goal : IsGoal target trace.visit
-  is_goal = goal trace.visit trace.is_at
-
   unbroken : (mode : Mode) → IsUnbrokenIn mode (state_at w.start) trace.later → IsUnbrokenIn mode first trace.later
   unbroken Given all = with_first {P = IsUnbroken} refl (λ z is. is) all
   unbroken Recompute one = refl
 
+  pub first_of : Opened x w c trace.later
+  first_of = record {
+    begins = record {
+      node = refl;
+      heap = refl;
+      broken = trace.start.concrete;
+      above = above;
+      judged = record {
+        rule = (judged_are_all (program_in x.walker) (heap_of w.start)).1 trace.start.meets;
+        listed = All-nil (IsNotAbove w.start);
+      };
+    };
+    accepted = record {
+      initial = search rules;
+      rules = with_first {P = MeetsRules} refl (λ z is. is) trace.rules;
+      unbroken = unbroken x.walker.mode trace.unbroken;
+    };
+    small = with_first {P = IsSmallState x.walker.cells} trace.heap.small (λ z is. is) trace.small;
+  }
+
+module _ (x : Quest) (target : Target) (valid : IsValid (program_in x.walker)) (list : List Visit) (place : ℕ)
+    (w : Track) (trace : IsTraceTo x list place w) (c : ListedCover) (above : IsFirstAbove w.start x.initial.now (Some c))
+    (goal : (v : Visit) → IsAt list place v → IsGoal target v) where
+  abbrev start_state : State
+  start_state = record (state_at w.start) { initial = Some c }
+
+  opened : Opened x w c trace.later
+  opened = first_of x valid list place w trace c above
+
+  abbrev is_goal : IsGoal target trace.visit
+  is_goal = goal trace.visit trace.is_at
+
   abbrev whole : Witness
   whole = record { initial = c.structure; track = w }
 
-  pub shown : IsShown (question_in x target) whole first trace.later
+  pub shown : IsShown (question_in x target) whole start_state trace.later
   shown = record {
     structure = trace.heap.is;
     two_valued = trace.heap.two_valued;
@@ -277,19 +311,10 @@ module _ (x : Quest) (target : Target) (valid : IsValid (program_in x.walker)) (
       trace.heap.unmarked,
     );
     replay = record {
-      first = first;
+      first = start_state;
       later = trace.later;
       are = refl;
-      begins = record {
-        node = refl;
-        heap = refl;
-        broken = trace.start.concrete;
-        above = above;
-        judged = record {
-          rule = (judged_are_all (program_in x.walker) (heap_of w.start)).1 trace.start.meets;
-          listed = All-nil (IsNotAbove w.start);
-        };
-      };
+      begins = opened.begins;
       goes_on = other_first (program_in x.walker) [] w.start (Some c) (moves_of w) trace.later trace.goes_on;
     };
     above = c;
@@ -297,12 +322,8 @@ module _ (x : Quest) (target : Target) (valid : IsValid (program_in x.walker)) (
     number = refl;
     heaps = trace.heaps;
     values = trace.values;
-    accepted = record {
-      initial = search rules;
-      rules = with_first {P = MeetsRules} refl (λ z is. is) trace.rules;
-      unbroken = unbroken x.walker.mode trace.unbroken;
-    };
-    small = with_first {P = IsSmallState x.walker.cells} trace.heap.small (λ z is. is) trace.small;
+    accepted = opened.accepted;
+    small = opened.small;
     node = last_node w.start (Some c) trace.later ∙ trace.node ∙ is_goal.0;
     aim = subst (λ (s : StructureForm). IsAimedAt (aim_of target.goal) (heap_of s))
         (sym (last_heap-same w.start (Some c) trace.later ∙ trace.ends)) is_goal.1;
@@ -313,9 +334,9 @@ module _ (x : Quest) (target : Target) (valid : IsValid (program_in x.walker)) (
   shortest closed show near =
       let found = show (question_in x target) valid closed w.start trace.heap.is trace.heap.two_valued
       (trace.heap.over ∙ sym (arities-same x.walker.ordered.program.now.vocab.preds), trace.heap.unmarked)
-      (moves_of w) [] first trace.later shown.replay shown.accepted shown.small shown.node shown.aim
+      (moves_of w) [] start_state trace.later shown.replay shown.accepted shown.small shown.node shown.aim
       in record {
-        first = first;
+        first = start_state;
         later = trace.later;
         shown = shown;
         from = found.0;

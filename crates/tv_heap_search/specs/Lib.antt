@@ -6,3 +6,4 @@ pub mod Retraced
 pub mod Answers
 pub mod Prepared
 pub mod Many
+pub mod Breaches

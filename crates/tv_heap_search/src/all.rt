@@ -31,7 +31,7 @@ pub struct Findings {
 }
 
 /// All heaps to which runs of heaps of few cells lead.
-fn explored(x: &Quest<'_>, scratch: &mut Scratch) -> Result<Visits, SearchError>
+pub(crate) fn explored(x: &Quest<'_>, scratch: &mut Scratch) -> Result<Visits, SearchError>
     requires ready { IsReadyQuest x.now scratch.old }
     ensures kept { IfOk result (IsSearch x.now) }
     ensures explored { IfOk result (λ v. IsExplored x.now v.list.items) }

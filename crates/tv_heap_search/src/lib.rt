@@ -2,6 +2,7 @@
 #![tactic(auto)]
 
 mod all;
+mod breaches;
 mod error;
 mod fewest;
 mod find;
@@ -15,6 +16,7 @@ mod visits;
 mod witness;
 
 pub use all::{Findings, witnesses_of_fewest_cells};
+pub use breaches::{Breach, Breaches, Premise, broken_premises};
 pub use error::{SearchError, Unanswered};
 pub use fewest::{Fewest, witness_of_fewest_cells};
 pub use quest::{Goal, Request, Target};

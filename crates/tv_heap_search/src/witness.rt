@@ -35,7 +35,7 @@ pub struct Witness {
 }
 
 /// The number of the first of the structures in which the heap that `s` stands for embeds.
-fn number_above(alloc: Global, s: &Structure, structures: &[Structure]) -> Result<u32, AllocError>
+pub(crate) fn number_above(alloc: Global, s: &Structure, structures: &[Structure]) -> Result<u32, AllocError>
     requires heap { IsStructure s.now × IsTwoValued s.now }
     requires vocabulary { All (λ t. arities_of s.now ≡ arities_of t) structures.now }
     requires few { length structures.now < 2 ^ 32 }

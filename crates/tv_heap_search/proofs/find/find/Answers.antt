@@ -68,6 +68,6 @@ returns-clause-answer c =
     let x = c.args.x.now
     in let target = c.args.target.now
     in let level = c.loop-from.invariant.level
-    in level_none x target c.loop-from.visits c.loop-from.invariant.kept c.loop-from.from level.0 level.1
-    (omega (arith, c.len.ensures, c.loop-from-test.false)) c.loop-from.invariant.none c.requires.ready.walk.valid
+    in level_none x c.loop-from.visits c.loop-from.invariant.kept c.loop-from.from level.0 level.1
+    (omega (arith, c.len.ensures, c.loop-from-test.false)) target c.loop-from.invariant.none c.requires.ready.walk.valid
     (closed_aim x.walker.ordered.program.now target.goal c.requires.goal) c.searches_end.ensures
