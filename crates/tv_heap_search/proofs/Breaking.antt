@@ -38,9 +38,9 @@ use Rattle.tv_heap_steps.specs.declared.along.Led.{Led}
 use Rattle.tv_heap_search.specs.Answers.{IsNumberAbove}
 use Rattle.tv_heap_search.specs.Breaches.{AddsBreaches, AreKept, Breaks, HasLineAt, IsBreach, IsBrokenIn, IsTold}
 use Rattle.tv_heap_search.specs.Breaches.{IsToldAlong, IsToldAt, extended, leg_of, runs_in}
-use Rattle.tv_heap_search.specs.Levels.{IsExplored}
-use Rattle.tv_heap_search.specs.Retraced.{IsTraceTo, heaps_of, moves_of, state_at}
-use Rattle.tv_heap_search.specs.Visited.{IsAt, IsLedFrom, IsSearch, LeavesFrom, places_of, place_of}
+use Rattle.tv_heap_search.specs.Levels.{IsAllFollowed}
+use Rattle.tv_heap_search.specs.Retraced.{IsTraceTo, heaps_along, moves_of, state_at}
+use Rattle.tv_heap_search.specs.Visited.{HasVisitAt, IsLedFrom, IsVisitSearch, LeavesFrom, visit_places, visit_place}
 use Rattle.tv_heap_search.specs.declared.breaches.Breach.{Breach}
 use Rattle.tv_heap_search.specs.declared.breaches.Premise.{Premise}
 use Rattle.tv_heap_search.specs.declared.breaches.Premise.TheVariants.{Update, Rule}
@@ -116,7 +116,7 @@ broken_there mode led (Rule n) broken = broken
 
 module _ (x : Quest) (valid : IsValid (program_in x.walker)) (list : List Visit) (place : ℕ) (w : Track)
     (trace : IsTraceTo x list place w) (c : ListedCover) (above : IsFirstAbove w.start x.initial.now (Some c))
-    (led : Led) (b : Visit) (at : IsAt list place b) (from : IsLedFrom x b led) (premise : Premise)
+    (led : Led) (b : Visit) (at : HasVisitAt list place b) (from : IsLedFrom x b led) (premise : Premise)
     (broken : Breaks x.walker.mode led premise) where
   abbrev p : ProgramForm
   p = program_in x.walker
@@ -200,7 +200,7 @@ module _ (x : Quest) (valid : IsValid (program_in x.walker)) (list : List Visit)
 
 -- where each step is told of, premises hold along an edge of which no line tells
 pub told_along_then : (x : Quest) (list : List Visit) (lines : List Breach) (place edge : ℕ) (v : Visit) (leds : List Led)
-    → IsAt list place v → All (IsSmallStep x.walker edge v.heap) leds → AreAllSteps x.walker edge v.heap leds
+    → HasVisitAt list place v → All (IsSmallStep x.walker edge v.heap) leds → AreAllSteps x.walker edge v.heap leds
     → All (IsTold x lines) leds → IsToldAlong x list lines place edge
 told_along_then x list lines place edge v leds at each all told w there taken its leaves none action its_action h copy
     picked middle new step few =
@@ -214,7 +214,7 @@ told_along_then x list lines place edge v leds at each all told w there taken it
 
 -- an edge that leaves another node isn't taken
 pub told_nowhere : (x : Quest) (list : List Visit) (lines : List Breach) (place edge : ℕ) (v : Visit) (taken : Edge)
-    → IsAt list place v → slice_get (program_in x.walker).edges edge ≡ Some taken → (taken.from ≡ v.node → ⊥)
+    → HasVisitAt list place v → slice_get (program_in x.walker).edges edge ≡ Some taken → (taken.from ≡ v.node → ⊥)
     → IsToldAlong x list lines place edge
 told_nowhere x list lines place edge v taken at its not w there other is leaves none action its_action h copy picked
     middle new step few =
@@ -223,14 +223,14 @@ told_nowhere x list lines place edge v taken at its not w there other is leaves 
 
 -- ---- all that was met
 
-pub kept_then : (x : Quest) → IsValid (program_in x.walker) → SearchesEnd → (s : Visits) → IsSearch x s
-    → IsExplored x s.list.items → (lines : List Breach)
+pub kept_then : (x : Quest) → IsValid (program_in x.walker) → SearchesEnd → (s : Visits) → IsVisitSearch x s
+    → IsAllFollowed x s.list.items → (lines : List Breach)
     → ((place : ℕ) → place < length s.list.items → IsToldAt x s.list.items lines place) → AreKept (runs_in x) lines
 kept_then x valid ends s kept explored lines told edge taken its none start stages run node action its_action picked
     middle new step few =
     let q : Question = runs_in x
-    in let exhaustive : IsExhaustive q (places_of s.list.items) = all_met x s kept explored
-    in let met = (ends q valid (places_of s.list.items) exhaustive).meets start stages run taken.from
+    in let exhaustive : IsExhaustive q (visit_places s.list.items) = all_met x s kept explored
+    in let met = (ends q valid (visit_places s.list.items) exhaustive).meets start stages run taken.from
     (last_heap start stages) (subst (λ n. BringsFrom 0 start stages n (last_heap start stages)) node
     (brings-last 0 start stages))
     in let v = place_at s.list.items met.0 met.1

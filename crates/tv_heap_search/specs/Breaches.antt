@@ -23,8 +23,8 @@ use Rattle.tv_witness_laws.specs.Witness.{HasFewCells, Question}
 use Rattle.tv_witness_laws.specs.Witness as witness
 use Rattle.tv_heap_steps.specs.Steps.{IsFairMove, program_in}
 use Rattle.tv_heap_steps.specs.declared.along.Led.{Led}
-use Rattle.tv_heap_search.specs.Retraced.{heaps_of, moves_of}
-use Rattle.tv_heap_search.specs.Visited.{IsAt}
+use Rattle.tv_heap_search.specs.Retraced.{heaps_along, moves_of}
+use Rattle.tv_heap_search.specs.Visited.{HasVisitAt}
 use Rattle.tv_heap_search.specs.declared.breaches.Breach.{Breach}
 use Rattle.tv_heap_search.specs.declared.breaches.Premise.{Premise}
 use Rattle.tv_heap_search.specs.declared.breaches.Premise.TheVariants.{Update, Rule}
@@ -78,7 +78,7 @@ pub record IsBreach (q : Question) (b : Breach) : Type 0 where
   pub above : ListedCover
   pub begins : first.initial ≡ Some above
   pub number : b.initial ≡ above.structure
-  pub heaps : heaps_of b.track ≡ map (λ (z : State). z.heap) (later ++ last ∷ [])
+  pub heaps : heaps_along b.track ≡ map (λ (z : State). z.heap) (later ++ last ∷ [])
   pub accepted : IsAcceptedReplay q.mode first later
   pub small : All (IsSmallState q.cells) (first ∷ later ++ last ∷ [])
   pub before : List Leg
@@ -137,7 +137,7 @@ IsTold x list led = ¬ HasLineAt list led.step.edge → IsFairMove x.walker.mode
 -- a line tells of the edge, or premises hold after each step along it from what was met at the place
 abbrev pub IsToldAlong : Quest → List Visit → List Breach → (place edge : ℕ) → Type 0
 IsToldAlong x list lines place edge =
-    (v : Visit) → IsAt list place v
+    (v : Visit) → HasVisitAt list place v
     → (taken : Edge) → slice_get (program_in x.walker).edges edge ≡ Some taken → taken.from ≡ v.node
     → ¬ HasLineAt lines edge
     → (action : ActionForm) → slice_get (program_in x.walker).actions taken.action ≡ Some action

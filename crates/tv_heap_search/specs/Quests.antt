@@ -18,9 +18,9 @@ use Rattle.tv_structure_form.specs.StructureForm as form
 use Rattle.tv_witness_laws.specs.Witness.{Aim, Question}
 use Rattle.tv_witness_laws.specs.Witness as witness
 
-abbrev pub aim_of : Goal → Aim
-aim_of (Makes cond) = witness.Makes (form_of cond.now)
-aim_of (LiesIn s) = witness.LiesIn s.now
+abbrev pub aim_of_goal : Goal → Aim
+aim_of_goal (Makes cond) = witness.Makes (form_of cond.now)
+aim_of_goal (LiesIn s) = witness.LiesIn s.now
 
 abbrev pub question_in : Quest → Target → Question
 question_in x target = record {
@@ -29,7 +29,7 @@ question_in x target = record {
   initial = x.initial.now;
   cells = x.walker.cells;
   node = target.node;
-  aim = aim_of target.goal;
+  aim = aim_of_goal target.goal;
 }
 
 abbrev pub question_of : Request → Target → Question
@@ -39,7 +39,7 @@ question_of x target = record {
   initial = x.initial.now;
   cells = x.cells;
   node = target.node;
-  aim = aim_of target.goal;
+  aim = aim_of_goal target.goal;
 }
 
 -- the condition is over the program's predicates, has no free variables and is hardly higher than the

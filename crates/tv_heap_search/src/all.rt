@@ -2,9 +2,9 @@
 
 ghost use Rattle.std.specs.Prelude.{◌≡◌, ◌<◌, ◌≤◌, ◌+◌, ◌^◌, All, IfErr, IfOk, None, OnOk, length, replicate};
 ghost use Rattle.tv_heap_search.specs.Many.{AnswersAt, AreAnswers, IsCauseOfNothing};
-ghost use Rattle.tv_heap_search.specs.Levels.{IsExplored};
+ghost use Rattle.tv_heap_search.specs.Levels.{IsAllFollowed};
 ghost use Rattle.tv_heap_search.specs.Quests.{IsGoalOver, IsReadyQuest, question_in, question_of};
-ghost use Rattle.tv_heap_search.specs.Visited.{IsSearch};
+ghost use Rattle.tv_heap_search.specs.Visited.{IsVisitSearch};
 ghost use Rattle.tv_heap_steps.specs.Settled.{AreAllSettled};
 ghost use Rattle.tv_model.specs.Program.{program_of};
 ghost use Rattle.tv_model.specs.Valid.{IsValid};
@@ -33,8 +33,8 @@ pub struct Findings {
 /// All heaps to which runs of heaps of few cells lead.
 pub(crate) fn explored(x: &Quest<'_>, scratch: &mut Scratch) -> Result<Visits, SearchError>
     requires ready { IsReadyQuest x.now scratch.old }
-    ensures kept { IfOk result (IsSearch x.now) }
-    ensures explored { IfOk result (λ v. IsExplored x.now v.list.items) }
+    ensures kept { IfOk result (IsVisitSearch x.now) }
+    ensures explored { IfOk result (λ v. IsAllFollowed x.now v.list.items) }
     ensures scratch { scratch.new ≡ scratch.old }
 {
     let mut visits = started(x, scratch)?;
@@ -52,8 +52,8 @@ fn fewest_at(
     requires ready { IsReadyQuest x.now scratch.old }
     requires few { length x.now.initial.now < 2 ^ 32 }
     requires goal { IsGoalOver x.now.walker.ordered.program.now target.now.goal }
-    requires kept { IsSearch x.now visits.now }
-    requires explored { IsExplored x.now visits.now.list.items }
+    requires kept { IsVisitSearch x.now visits.now }
+    requires explored { IsAllFollowed x.now visits.now.list.items }
     ensures answer { IfOk result (AnswersAt (question_in x.now target.now) x.now.walker.cells) }
     ensures scratch { scratch.new ≡ scratch.old }
 {
@@ -77,8 +77,8 @@ fn find_rest(
     requires ready { IsReadyQuest x.now scratch.old }
     requires few { length x.now.initial.now < 2 ^ 32 }
     requires goals { All (λ (t : Target). IsGoalOver x.now.walker.ordered.program.now t.goal) targets.now }
-    requires kept { IsSearch x.now visits.now }
-    requires explored { IsExplored x.now visits.now.list.items }
+    requires kept { IsVisitSearch x.now visits.now }
+    requires explored { IsAllFollowed x.now visits.now.list.items }
     requires found { AreAnswers (question_in x.now) targets.now x.now.walker.cells found.old.items }
     ensures found { OnOk result (AreAnswers (question_in x.now) targets.now (x.now.walker.cells + 1)
         found.new.items) }

@@ -5,9 +5,9 @@ ghost use Rattle.tv_heap_search.specs.Breaches.{AddsBreaches, AreKept, AreKeptBe
 ghost use Rattle.tv_heap_search.specs.Breaches.{IsBrokenBy, IsReadyToTell, IsTold, IsToldAlong, IsToldAt};
 ghost use Rattle.tv_heap_search.specs.Breaches.{extended, leg_of, runs_in, runs_of};
 ghost use Rattle.tv_heap_search.specs.Many.{IsCauseOfNothing};
-ghost use Rattle.tv_heap_search.specs.Levels.{IsExplored};
+ghost use Rattle.tv_heap_search.specs.Levels.{IsAllFollowed};
 ghost use Rattle.tv_heap_search.specs.Quests.{IsReadyQuest};
-ghost use Rattle.tv_heap_search.specs.Visited.{IsSearch, LeavesFrom};
+ghost use Rattle.tv_heap_search.specs.Visited.{IsVisitSearch, LeavesFrom};
 ghost use Rattle.tv_heap_steps.specs.Settled.{AreAllSettled};
 ghost use Rattle.tv_model.specs.Program.{program_of};
 ghost use Rattle.tv_model.specs.Valid.{IsValid};
@@ -80,7 +80,7 @@ fn breach_by(
     premise: Premise,
 ) -> Result<Breach, AllocError>
     requires ready { IsReadyToTell x.now }
-    requires kept { IsSearch x.now visits.now }
+    requires kept { IsVisitSearch x.now visits.now }
     requires step { LeavesFrom x.now visits.now.list.items place led }
     requires broken { Breaks x.now.walker.mode led premise }
     ensures breach { IfOk result (IsBreach (runs_in x.now)) }
@@ -119,7 +119,7 @@ fn note(
     list: &mut Vec<Breach>,
 ) -> Result<(), AllocError>
     requires ready { IsReadyToTell x.now }
-    requires kept { IsSearch x.now visits.now }
+    requires kept { IsVisitSearch x.now visits.now }
     requires step { LeavesFrom x.now visits.now.list.items place led }
     ensures adds { OnOk result (AddsBreaches (runs_in x.now) list.old.items list.new.items) }
     ensures told { OnOk result (IsTold x.now list.new.items led) }
@@ -145,7 +145,7 @@ fn note_all(
     list: &mut Vec<Breach>,
 ) -> Result<(), AllocError>
     requires ready { IsReadyToTell x.now }
-    requires kept { IsSearch x.now visits.now }
+    requires kept { IsVisitSearch x.now visits.now }
     requires steps { All (LeavesFrom x.now visits.now.list.items place) all.items }
     ensures adds { OnOk result (AddsBreaches (runs_in x.now) list.old.items list.new.items) }
     ensures told { OnOk result (All (IsTold x.now list.new.items) all.items) }
@@ -168,7 +168,7 @@ fn tell_along(
     requires few { length x.now.initial.now < 2 ^ 32 }
     requires place { at.0 < length visits.now.list.items }
     requires edge { at.1 < length x.now.walker.ordered.program.now.edges }
-    requires kept { IsSearch x.now visits.now }
+    requires kept { IsVisitSearch x.now visits.now }
     ensures adds { OnOk result (AddsBreaches (runs_in x.now) list.old.items list.new.items) }
     ensures told { OnOk result (IsToldAlong x.now visits.now.list.items list.new.items at.0 at.1) }
     ensures scratch { scratch.new ≡ scratch.old }
@@ -193,7 +193,7 @@ fn tell_from(
     requires ready { IsReadyQuest x.now scratch.old }
     requires few { length x.now.initial.now < 2 ^ 32 }
     requires place { place < length visits.now.list.items }
-    requires kept { IsSearch x.now visits.now }
+    requires kept { IsVisitSearch x.now visits.now }
     ensures adds { OnOk result (AddsBreaches (runs_in x.now) list.old.items list.new.items) }
     ensures told { OnOk result (IsToldAt x.now visits.now.list.items list.new.items place) }
     ensures scratch { scratch.new ≡ scratch.old }
@@ -213,8 +213,8 @@ fn tell_all(
 ) -> Result<(), AllocError>
     requires ready { IsReadyQuest x.now scratch.old }
     requires few { length x.now.initial.now < 2 ^ 32 }
-    requires kept { IsSearch x.now visits.now }
-    requires explored { IsExplored x.now visits.now.list.items }
+    requires kept { IsVisitSearch x.now visits.now }
+    requires explored { IsAllFollowed x.now visits.now.list.items }
     ensures adds { OnOk result (AddsBreaches (runs_in x.now) list.old.items list.new.items) }
     ensures kept { OnOk result (AreKept (runs_in x.now) list.new.items) }
     ensures scratch { scratch.new ≡ scratch.old }

@@ -1,7 +1,7 @@
 //! A witness of as few cells as any.
 
 ghost use Rattle.std.specs.Prelude.{◌≡◌, ◌<◌, ◌^◌, All, IfErr, IfOk, length};
-ghost use Rattle.tv_heap_search.specs.Answers.{AnswersFewest, IsCauseOfNone};
+ghost use Rattle.tv_heap_search.specs.Answers.{AnswersFewest, IsCauseUnanswered};
 ghost use Rattle.tv_heap_search.specs.Quests.{IsGoalOver, question_of};
 ghost use Rattle.tv_heap_steps.specs.Settled.{AreAllSettled};
 ghost use Rattle.tv_model.specs.Program.{program_of};
@@ -52,7 +52,7 @@ pub fn witness_of_fewest_cells(
     requires cells { x.now.cells < 256 }
     ensures answer { IfOk result (AnswersFewest (question_of x.now target.now)) }
     ensures settled { IfOk result (λ found. AreAllSettled (program_of x.now.program.now).actions) }
-    ensures cause { IfErr result (IsCauseOfNone (question_of x.now target.now)) }
+    ensures cause { IfErr result (IsCauseUnanswered (question_of x.now target.now)) }
 {
     if !are_all_settled(x.program.actions.as_slice()) {
         return Err(Unanswered::Free);

@@ -1,10 +1,10 @@
 //! What was met is followed level by level: what one level has is met in as many steps.
 
 ghost use Rattle.std.specs.Prelude.{◌≡◌, IfOk, OnOk};
-ghost use Rattle.tv_heap_search.specs.Answers.{AnswersSearch};
-ghost use Rattle.tv_heap_search.specs.Levels.{IsExplored, IsLevel};
+ghost use Rattle.tv_heap_search.specs.Answers.{AnswersTarget};
+ghost use Rattle.tv_heap_search.specs.Levels.{IsAllFollowed, IsHeapLevel};
 ghost use Rattle.tv_heap_search.specs.Quests.{IsGoalOver, IsReadyQuest};
-ghost use Rattle.tv_heap_search.specs.Visited.{IsSearch};
+ghost use Rattle.tv_heap_search.specs.Visited.{IsVisitSearch};
 
 use crate::error::SearchError;
 use crate::follow::follow_level;
@@ -22,10 +22,10 @@ pub(crate) fn explore(
     visits: &mut Visits,
 ) -> Result<(), SearchError>
     requires ready { IsReadyQuest x.now scratch.old }
-    requires kept { IsSearch x.now visits.old }
-    requires level { IsLevel x.now visits.old.list.items 0 0 }
-    ensures kept { OnOk result (IsSearch x.now visits.new) }
-    ensures explored { OnOk result (IsExplored x.now visits.new.list.items) }
+    requires kept { IsVisitSearch x.now visits.old }
+    requires level { IsHeapLevel x.now visits.old.list.items 0 0 }
+    ensures kept { OnOk result (IsVisitSearch x.now visits.new) }
+    ensures explored { OnOk result (IsAllFollowed x.now visits.new.list.items) }
     ensures scratch { scratch.new ≡ scratch.old }
 {
     let mut from = 0;
@@ -47,9 +47,9 @@ pub(crate) fn nearest(
 ) -> Result<Option<usize>, AllocError>
     requires ready { IsReadyQuest x.now scratch.old }
     requires goal { IsGoalOver x.now.walker.ordered.program.now target.now.goal }
-    requires kept { IsSearch x.now visits.now }
-    requires explored { IsExplored x.now visits.now.list.items }
-    ensures answer { IfOk result (AnswersSearch x.now target.now visits.now.list.items) }
+    requires kept { IsVisitSearch x.now visits.now }
+    requires explored { IsAllFollowed x.now visits.now.list.items }
+    ensures answer { IfOk result (AnswersTarget x.now target.now visits.now.list.items) }
     ensures scratch { scratch.new ≡ scratch.old }
 {
     searches_end();
@@ -67,10 +67,10 @@ pub(crate) fn find(
 ) -> Result<Option<usize>, SearchError>
     requires ready { IsReadyQuest x.now scratch.old }
     requires goal { IsGoalOver x.now.walker.ordered.program.now target.now.goal }
-    requires kept { IsSearch x.now visits.old }
-    requires level { IsLevel x.now visits.old.list.items 0 0 }
-    ensures kept { OnOk result (IsSearch x.now visits.new) }
-    ensures answer { IfOk result (AnswersSearch x.now target.now visits.new.list.items) }
+    requires kept { IsVisitSearch x.now visits.old }
+    requires level { IsHeapLevel x.now visits.old.list.items 0 0 }
+    ensures kept { OnOk result (IsVisitSearch x.now visits.new) }
+    ensures answer { IfOk result (AnswersTarget x.now target.now visits.new.list.items) }
     ensures scratch { scratch.new ≡ scratch.old }
 {
     searches_end();

@@ -2,8 +2,8 @@
 
 ghost use Rattle.std.specs.Prelude.{◌≡◌, ◌<◌, ◌≤◌, All, OnOk, length};
 ghost use Rattle.tv_heap_search.specs.Quests.{IsReadyQuest};
-ghost use Rattle.tv_heap_search.specs.Visited.{AreLedMet, Grows, IsFrom, IsFromBelow, IsFollowedFrom};
-ghost use Rattle.tv_heap_search.specs.Visited.{AreFollowed, IsFollowedAt, IsLedMet, IsSearch, LeavesFrom};
+ghost use Rattle.tv_heap_search.specs.Visited.{AreLedMet, MeetsMore, IsVisitFrom, IsVisitFromBelow, IsPlaceFollowedAlong};
+ghost use Rattle.tv_heap_search.specs.Visited.{ArePlacesFollowed, IsPlaceFollowed, IsLedMet, IsVisitSearch, LeavesFrom};
 ghost use Rattle.tv_heap_steps.specs.Steps.{program_in};
 ghost use Rattle.tv_model.specs.Valid.{IsValid};
 
@@ -21,7 +21,7 @@ fn meet_led(
     visits: &mut Visits,
 ) -> Result<(), SearchError>
     requires valid { IsValid (program_in x.now.walker) }
-    requires kept { IsSearch x.now visits.old }
+    requires kept { IsVisitSearch x.now visits.old }
     requires step { LeavesFrom x.now visits.old.list.items before led }
     ensures met { OnOk result (IsLedMet x.now before led visits.old visits.new) }
 {
@@ -46,7 +46,7 @@ fn meet_all(
 ) -> Result<(), SearchError>
     requires valid { IsValid (program_in x.now.walker) }
     requires place { before < length visits.old.list.items }
-    requires kept { IsSearch x.now visits.old }
+    requires kept { IsVisitSearch x.now visits.old }
     requires steps { All (LeavesFrom x.now visits.old.list.items before) all.items }
     ensures met { OnOk result (AreLedMet x.now before all.items visits.old visits.new) }
 {
@@ -67,10 +67,10 @@ fn follow_along(
     requires ready { IsReadyQuest x.now scratch.old }
     requires place { place < length visits.old.list.items }
     requires edge { edge < length x.now.walker.ordered.program.now.edges }
-    requires kept { IsSearch x.now visits.old }
-    ensures kept { OnOk result (IsSearch x.now visits.new) }
-    ensures grows { OnOk result (Grows (IsFrom place) visits.old visits.new) }
-    ensures followed { OnOk result (IsFollowedFrom x.now visits.new.list.items place edge) }
+    requires kept { IsVisitSearch x.now visits.old }
+    ensures kept { OnOk result (IsVisitSearch x.now visits.new) }
+    ensures grows { OnOk result (MeetsMore (IsVisitFrom place) visits.old visits.new) }
+    ensures followed { OnOk result (IsPlaceFollowedAlong x.now visits.new.list.items place edge) }
     ensures scratch { scratch.new ≡ scratch.old }
 {
     let visit = &visits.list[place];
@@ -91,10 +91,10 @@ fn follow(
 ) -> Result<(), SearchError>
     requires ready { IsReadyQuest x.now scratch.old }
     requires place { place < length visits.old.list.items }
-    requires kept { IsSearch x.now visits.old }
-    ensures kept { OnOk result (IsSearch x.now visits.new) }
-    ensures grows { OnOk result (Grows (IsFrom place) visits.old visits.new) }
-    ensures followed { OnOk result (IsFollowedAt x.now visits.new.list.items place) }
+    requires kept { IsVisitSearch x.now visits.old }
+    ensures kept { OnOk result (IsVisitSearch x.now visits.new) }
+    ensures grows { OnOk result (MeetsMore (IsVisitFrom place) visits.old visits.new) }
+    ensures followed { OnOk result (IsPlaceFollowed x.now visits.new.list.items place) }
     ensures scratch { scratch.new ≡ scratch.old }
 {
     for edge in 0..x.walker.ordered.program.edges.len() as u32 {
@@ -113,10 +113,10 @@ pub(crate) fn follow_level(
 ) -> Result<(), SearchError>
     requires ready { IsReadyQuest x.now scratch.old }
     requires to { to ≤ length visits.old.list.items }
-    requires kept { IsSearch x.now visits.old }
-    ensures kept { OnOk result (IsSearch x.now visits.new) }
-    ensures grows { OnOk result (Grows (IsFromBelow to) visits.old visits.new) }
-    ensures followed { OnOk result (AreFollowed x.now visits.new.list.items from to) }
+    requires kept { IsVisitSearch x.now visits.old }
+    ensures kept { OnOk result (IsVisitSearch x.now visits.new) }
+    ensures grows { OnOk result (MeetsMore (IsVisitFromBelow to) visits.old visits.new) }
+    ensures followed { OnOk result (ArePlacesFollowed x.now visits.new.list.items from to) }
     ensures scratch { scratch.new ≡ scratch.old }
 {
     for place in from..to {

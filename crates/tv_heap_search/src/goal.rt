@@ -3,8 +3,8 @@
 ghost use Rattle.std.specs.Prelude.{◌≡◌, ◌<◌, ◌↔◌, IfOk, IsTrue};
 ghost use Rattle.tv_eval.specs.AssignmentForm.{assignment_of};
 ghost use Rattle.tv_eval.specs.Formulas.{AreAssigned};
-ghost use Rattle.tv_heap_search.specs.Goals.{CanAsk, CanTellIn, IsGoal, IsFirstGoalFrom, AreAllHeaps};
-ghost use Rattle.tv_heap_search.specs.Quests.{IsGoalOver, IsReadyQuest, aim_of};
+ghost use Rattle.tv_heap_search.specs.Goals.{CanAskGoal, CanTellIn, IsVisitAimedAt, IsFirstGoalFrom, AreAllHeaps};
+ghost use Rattle.tv_heap_search.specs.Quests.{IsGoalOver, IsReadyQuest, aim_of_goal};
 ghost use Rattle.tv_heap_steps.specs.Steps.{IsSmallHeap};
 ghost use Rattle.tv_model.specs.Form.{form_of};
 ghost use Rattle.tv_model.specs.Rules.{blank};
@@ -52,8 +52,8 @@ fn is_aimed_at(
     s: &Structure,
     scratch: &mut Scratch,
 ) -> Result<bool, AllocError>
-    requires can { CanAsk goal.now s.now scratch.old }
-    ensures aimed { IfOk result (λ is. IsTrue is ↔ IsAimedAt (aim_of goal.now) (heap_of s.now)) }
+    requires can { CanAskGoal goal.now s.now scratch.old }
+    ensures aimed { IfOk result (λ is. IsTrue is ↔ IsAimedAt (aim_of_goal goal.now) (heap_of s.now)) }
     ensures scratch { scratch.new ≡ scratch.old }
 {
     match *goal {
@@ -72,7 +72,7 @@ fn is_goal(
     requires ready { IsReadyQuest x.now scratch.old }
     requires goal { IsGoalOver x.now.walker.ordered.program.now target.now.goal }
     requires heap { IsSmallHeap x.now.walker visit.now.heap }
-    ensures goal { IfOk result (λ is. IsTrue is ↔ IsGoal target.now visit.now) }
+    ensures goal { IfOk result (λ is. IsTrue is ↔ IsVisitAimedAt target.now visit.now) }
     ensures scratch { scratch.new ≡ scratch.old }
 {
     if visit.node != target.node {

@@ -1,11 +1,11 @@
 //! A shortest witness.
 
 ghost use Rattle.std.specs.Prelude.{◌≡◌, ◌<◌, ◌^◌, All, IfOk, OnOk, Some, length};
-ghost use Rattle.tv_heap_search.specs.Answers.{AnswersQuestion, AnswersSearch, IsNumberAbove};
+ghost use Rattle.tv_heap_search.specs.Answers.{AnswersQuestion, AnswersTarget, IsNumberAbove};
 ghost use Rattle.tv_heap_search.specs.Answers.{IsShortestWitness};
-ghost use Rattle.tv_heap_search.specs.Levels.{IsLevel};
+ghost use Rattle.tv_heap_search.specs.Levels.{IsHeapLevel};
 ghost use Rattle.tv_heap_search.specs.Quests.{IsGoalOver, IsReadyQuest, question_in, question_of};
-ghost use Rattle.tv_heap_search.specs.Visited.{IsSearch};
+ghost use Rattle.tv_heap_search.specs.Visited.{IsVisitSearch};
 ghost use Rattle.tv_heap_steps.specs.Settled.{AreAllSettled};
 ghost use Rattle.tv_model.specs.Program.{program_of};
 ghost use Rattle.tv_model.specs.Valid.{IsValid};
@@ -51,8 +51,8 @@ pub(crate) fn number_above(alloc: Global, s: &Structure, structures: &[Structure
 /// What was met of start heaps, which is all that is met in no step.
 pub(crate) fn started(x: &Quest<'_>, scratch: &mut Scratch) -> Result<Visits, SearchError>
     requires ready { IsReadyQuest x.now scratch.old }
-    ensures kept { IfOk result (IsSearch x.now) }
-    ensures level { IfOk result (λ v. IsLevel x.now v.list.items 0 0) }
+    ensures kept { IfOk result (IsVisitSearch x.now) }
+    ensures level { IfOk result (λ v. IsHeapLevel x.now v.list.items 0 0) }
     ensures scratch { scratch.new ≡ scratch.old }
 {
     let alloc = x.walker.ordered.alloc;
@@ -72,8 +72,8 @@ pub(crate) fn witness_to(
     requires few { length x.now.initial.now < 2 ^ 32 }
     requires valid { IsValid (program_of x.now.walker.ordered.program.now) }
     requires goal { IsGoalOver x.now.walker.ordered.program.now target.now.goal }
-    requires kept { IsSearch x.now visits.now }
-    requires place { AnswersSearch x.now target.now visits.now.list.items (Some place) }
+    requires kept { IsVisitSearch x.now visits.now }
+    requires place { AnswersTarget x.now target.now visits.now.list.items (Some place) }
     ensures shortest { IfOk result (IsShortestWitness (question_in x.now target.now)) }
 {
     replays_show_witnesses();

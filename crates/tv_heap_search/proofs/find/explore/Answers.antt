@@ -1,5 +1,5 @@
 use Rattle.std.proofs.Common.{◌+◌, arith}
-use Rattle.tv_heap_search.specs.Visited.{IsFromBelow}
+use Rattle.tv_heap_search.specs.Visited.{IsVisitFromBelow}
 use Rattle.tv_heap_search.proofs.Growing.{longer_on}
 use Rattle.tv_heap_search.proofs.Levelling.{level_next}
 use Rattle.tv_heap_search.proofs.find.explore.Goals as goal
@@ -23,7 +23,7 @@ loop-from-preserved c =
     in let level = c.loop-from.invariant.level
     in record {
       kept = c.in_ok-follow_level.ensures.kept;
-      within = omega (arith, c.len-to.ensures, longer_on (IsFromBelow to) old new grows);
+      within = omega (arith, c.len-to.ensures, longer_on (IsVisitFromBelow to) old new grows);
       level = (
         level.0 + 1,
         level_next x old new c.loop-from.invariant.kept c.in_ok-follow_level.ensures.kept to from level.0 c.len-to.ensures

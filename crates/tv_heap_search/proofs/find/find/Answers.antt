@@ -1,6 +1,6 @@
 use Rattle.std.proofs.Common.{◌+◌, arith, subst}
 use Rattle.tv_heap_search.specs.Goals.{HasNoGoal, IsFirstGoalFrom}
-use Rattle.tv_heap_search.specs.Visited.{IsFromBelow}
+use Rattle.tv_heap_search.specs.Visited.{IsVisitFromBelow}
 use Rattle.tv_heap_search.proofs.Asking.{closed_aim, heaps_kept, none_between}
 use Rattle.tv_heap_search.proofs.Growing.{longer_on}
 use Rattle.tv_heap_search.proofs.Levelling.{goal_nearest, level_next, level_none, none_further, none_on}
@@ -31,13 +31,13 @@ loop-from-preserved c =
     in let none = subst (IsFirstGoalFrom target old.list.items from) c.in_default.is c.in_ok-first_goal.ensures.first
     in record {
       kept = c.in_ok-follow_level.ensures.kept;
-      within = omega (arith, c.len-to.ensures, longer_on (IsFromBelow to) old new grows);
+      within = omega (arith, c.len-to.ensures, longer_on (IsVisitFromBelow to) old new grows);
       level = (
         level.0 + 1,
         level_next x old new c.loop-from.invariant.kept c.in_ok-follow_level.ensures.kept to from level.0 c.len-to.ensures
             level.1 grows c.in_ok-follow_level.ensures.followed,
       );
-      none = none_on target (IsFromBelow to) old new grows 0 to (omega (arith, c.len-to.ensures))
+      none = none_on target (IsVisitFromBelow to) old new grows 0 to (omega (arith, c.len-to.ensures))
           (none_further target old.list.items from to c.loop-from.invariant.none
           (subst (HasNoGoal target old.list.items from) c.len-to.ensures none));
       same = cc;

@@ -1,5 +1,5 @@
 use Rattle.std.proofs.Common.{arith, subst}
-use Rattle.tv_heap_search.specs.Visited.{IsFrom}
+use Rattle.tv_heap_search.specs.Visited.{IsVisitFrom}
 use Rattle.tv_heap_search.proofs.Growing.{grows_none, grows_on, longer_on}
 use Rattle.tv_heap_search.proofs.Turning.{edge_next, followed_here}
 use Rattle.tv_heap_search.proofs.follow.follow.Goals as goal
@@ -7,7 +7,7 @@ use Rattle.tv_heap_search.proofs.follow.follow.Goals as goal
 pub loop-edge-init : goal.loop-edge-init
 loop-edge-init c = record {
   kept = c.requires.kept;
-  grows = grows_none (IsFrom c.args.place) c.args.visits.now;
+  grows = grows_none (IsVisitFrom c.args.place) c.args.visits.now;
   along = λ k less. absurd (omega (arith, less));
   same = cc;
 }
@@ -17,7 +17,7 @@ follow_along-requires-clause-place c =
     omega (
       arith,
       c.requires.place,
-      longer_on (IsFrom c.args.place) c.args.visits.now c.loop-edge.visits c.loop-edge.invariant.grows,
+      longer_on (IsVisitFrom c.args.place) c.args.visits.now c.loop-edge.visits c.loop-edge.invariant.grows,
     )
 
 pub loop-edge-preserved : goal.loop-edge-preserved
@@ -30,11 +30,11 @@ loop-edge-preserved c =
     in let within = omega (
       arith,
       c.requires.place,
-      longer_on (IsFrom place) c.args.visits.now old c.loop-edge.invariant.grows,
+      longer_on (IsVisitFrom place) c.args.visits.now old c.loop-edge.invariant.grows,
     )
     in record {
       kept = c.in_ok-follow_along.ensures.kept;
-      grows = grows_on (IsFrom place) c.args.visits.now old new c.loop-edge.invariant.grows
+      grows = grows_on (IsVisitFrom place) c.args.visits.now old new c.loop-edge.invariant.grows
           c.in_ok-follow_along.ensures.grows;
       along = edge_next x place old new within c.in_ok-follow_along.ensures.grows edge edge c.loop-edge.invariant.along
           c.in_ok-follow_along.ensures.followed;

@@ -2,7 +2,7 @@ use Rattle.std.proofs.Common.{Contains, length, rules, sym}
 use Rattle.std.proofs.lemmas.Iterator.Adapters.{YieldsList-from_vec}
 use Rattle.std.proofs.lemmas.Iterator.Consumers.{YieldsList-turn}
 use Rattle.std.proofs.lemmas.List.Elements.{All-contains}
-use Rattle.tv_heap_search.specs.Visited.{IsFrom, LeavesFrom}
+use Rattle.tv_heap_search.specs.Visited.{IsVisitFrom, LeavesFrom}
 use Rattle.tv_heap_search.proofs.Keeping.{one_led_more}
 use Rattle.tv_heap_search.proofs.Turning.{leaves_on, led_none}
 use Rattle.tv_heap_search.proofs.follow.meet_all.Goals as goal
@@ -16,7 +16,7 @@ meet_led-requires-clause-step c =
     (YieldsList-from_vec {s = c.into_iter-led-iterator.result} c.args.all.items (search rules) (search rules))
     c.loop-led.yielded c.loop-led.led-iterator c.loop-led.yielded_by c.next.result c.next.new.self c.in-Some.led
     c.in-Some.is c.next.ensures.steps
-    in leaves_on c.args.x.now (IsFrom c.args.before) c.args.visits.now c.loop-led.visits c.loop-led.invariant.grows
+    in leaves_on c.args.x.now (IsVisitFrom c.args.before) c.args.visits.now c.loop-led.visits c.loop-led.invariant.grows
     c.args.before c.in-Some.led
     (All-contains (LeavesFrom c.args.x.now c.args.visits.now.list.items c.args.before) c.args.all.items c.in-Some.led
     c.requires.steps (length c.loop-led.yielded, turn.0, sym turn.1))

@@ -3,7 +3,7 @@ use Rattle.std.proofs.lemmas.List.{take_all}
 use Rattle.std.specs.Prelude.{slice_get}
 use Rattle.tv_structure_form.specs.StructureForm.{StructureForm}
 use Rattle.tv_heap_search.proofs.Growing.{grows_on}
-use Rattle.tv_heap_search.specs.Visited.{AreMetOf, IsFirst}
+use Rattle.tv_heap_search.specs.Visited.{AreMetOf, IsStartVisit}
 use Rattle.tv_heap_search.proofs.Turning.{starts_next}
 use Rattle.tv_heap_search.proofs.start.start_all.Goals as goal
 
@@ -14,7 +14,7 @@ loop-s-preserved c =
     in let new = c.start.new.visits
     in record {
       kept = c.in_ok-start.ensures.kept;
-      grows = grows_on IsFirst c.args.visits.now old new c.loop-s.invariant.grows c.in_ok-start.ensures.grows;
+      grows = grows_on IsStartVisit c.args.visits.now old new c.loop-s.invariant.grows c.in_ok-start.ensures.grows;
       met = starts_next x x.initial.now old new c.in_ok-start.ensures.grows c.loop-s.s-index c.s-item.result
           (subst (λ l. c.loop-s.s-index < length l) c.as_slice-s-items.ensures c.loop-s-test.true) ?
           c.loop-s.invariant.met c.in_ok-start.ensures.met;
