@@ -31,11 +31,11 @@ use Rattle.tv_witness_laws.specs.Replays.{IsAcceptedReplay, IsSmallState, IsUnbr
 use Rattle.tv_witness_laws.specs.Witness.{IsAimedAt}
 use Rattle.tv_heap_steps.specs.Steps.{IsSmallHeap, IsUnbrokenBy, program_in}
 use Rattle.tv_heap_search.specs.Answers.{IsShortestWitness, IsShown}
-use Rattle.tv_heap_search.specs.Levels.{IsNearest}
-use Rattle.tv_heap_search.specs.Quests.{IsReadyQuest, aim_of, question_in}
-use Rattle.tv_heap_search.specs.Retraced.{HasValuesFor, IsTraceTo, heaps_of, moves_of, state_at}
-use Rattle.tv_heap_search.specs.Goals.{IsGoal}
-use Rattle.tv_heap_search.specs.Visited.{HasSteps, IsAt, IsOrigin, IsVisit, LeadsHere}
+use Rattle.tv_heap_search.specs.Levels.{IsNearestVisit}
+use Rattle.tv_heap_search.specs.Quests.{IsReadyQuest, aim_of_goal, question_in}
+use Rattle.tv_heap_search.specs.Retraced.{HasValuesFor, IsTraceTo, heaps_along, moves_of, state_at}
+use Rattle.tv_heap_search.specs.Goals.{IsVisitAimedAt}
+use Rattle.tv_heap_search.specs.Visited.{HasSteps, HasVisitAt, IsVisitOrigin, IsVisit, LeadsHere}
 use Rattle.tv_heap_search.specs.declared.quest.Quest.{Quest}
 use Rattle.tv_heap_search.specs.declared.quest.Target.{Target}
 use Rattle.tv_heap_search.specs.declared.retrace.Leg.{Leg}
@@ -92,11 +92,11 @@ state_of m = record {
 
 -- ---- the first place
 
-pub trace_first : (x : Quest) (list : List Visit) (place : ℕ) (v : Visit) → IsAt list place v → IsVisit x list place v
+pub trace_first : (x : Quest) (list : List Visit) (place : ℕ) (v : Visit) → HasVisitAt list place v → IsVisit x list place v
     → v.origin ≡ Start → (start : StructureForm) → start ≡ v.heap
     → IsTraceTo x list place (record { start = start; legs = [] })
 trace_first x list place v at visit e start same =
-    let origin : IsOrigin x list place v Start = subst (IsOrigin x list place v) e visit.origin
+    let origin : IsVisitOrigin x list place v Start = subst (IsVisitOrigin x list place v) e visit.origin
     in record {
       heap = subst (λ (s : StructureForm). IsSmallHeap x.walker s) (sym same) visit.heap;
       start = subst (λ (s : StructureForm). IsStart (program_in x.walker) (heap_of s)) (sym same) origin.1;
@@ -123,13 +123,13 @@ trace_first x list place v at visit e start same =
 
 -- ---- one place more
 
-module _ (x : Quest) (list : List Visit) (place before : ℕ) (v : Visit) (step : Move) (at : IsAt list place v)
+module _ (x : Quest) (list : List Visit) (place before : ℕ) (v : Visit) (step : Move) (at : HasVisitAt list place v)
     (e : v.origin ≡ Step before step) (visit : IsVisit x list place v) (w : Track) (trace : IsTraceTo x list before w) where
   abbrev p : ProgramForm
   p = program_in x.walker
 
-  origin : IsOrigin x list place v (Step before step)
-  origin = subst (IsOrigin x list place v) e visit.origin
+  origin : IsVisitOrigin x list place v (Step before step)
+  origin = subst (IsVisitOrigin x list place v) e visit.origin
 
   abbrev b : Visit
   b = origin.1.0
@@ -171,7 +171,7 @@ module _ (x : Quest) (list : List Visit) (place before : ℕ) (v : Visit) (step 
   moves_more leg same =
       map-append step_of w.legs (leg ∷ []) ∙ ap (λ (m : Move). moves_of w ++ m ∷ []) same
 
-  heaps_more : (leg : Leg) → leg.heap ≡ v.heap → heaps_of (longer leg) ≡ map heap_in (trace.later ++ y ∷ [])
+  heaps_more : (leg : Leg) → leg.heap ≡ v.heap → heaps_along (longer leg) ≡ map heap_in (trace.later ++ y ∷ [])
   heaps_more leg same =
       map-append heap_at w.legs (leg ∷ [])
       ∙ ap₂ (λ hs h. hs ++ h ∷ []) trace.heaps (same ∙ leads.heap)
@@ -212,7 +212,7 @@ on_at_once x list place w trace =
     subst (λ ls. IsTraceTo x list place (record { start = w.start; legs = ls })) (sym (append-nil w.legs)) trace
 
 pub on_before : (x : Quest) (list : List Visit) (place last before : ℕ) (legs : List Leg) (v : Visit) (step : Move)
-    → IsAt list last v → v.origin ≡ Step before step → IsVisit x list last v → GoesOn x list place last legs
+    → HasVisitAt list last v → v.origin ≡ Step before step → IsVisit x list last v → GoesOn x list place last legs
     → (leg : Leg) → leg.step ≡ step → leg.heap ≡ v.heap → GoesOn x list place before (legs ++ leg ∷ [])
 on_before x list place last before legs v step at e visit on leg steps_same heaps_same w trace =
     subst (λ ls. IsTraceTo x list place (record { start = w.start; legs = ls }))
@@ -223,7 +223,7 @@ on_before x list place last before legs v step at e visit on leg steps_same heap
 -- the place before lies before
 pub origin_below : (x : Quest) (list : List Visit) (place before : ℕ) (v : Visit) (step : Move)
     → IsVisit x list place v → v.origin ≡ Step before step → before < place
-origin_below x list place before v step visit e = (subst (IsOrigin x list place v) e visit.origin).0
+origin_below x list place before v step visit e = (subst (IsVisitOrigin x list place v) e visit.origin).0
 
 -- ---- the witness
 
@@ -249,7 +249,7 @@ last_heap-same s c (z ∷ later) = refl
 
 module _ (x : Quest) (target : Target) (valid : IsValid (program_in x.walker)) (list : List Visit) (place : ℕ)
     (w : Track) (trace : IsTraceTo x list place w) (c : ListedCover) (above : IsFirstAbove w.start x.initial.now (Some c))
-    (goal : (v : Visit) → IsAt list place v → IsGoal target v) where
+    (goal : (v : Visit) → HasVisitAt list place v → IsVisitAimedAt target v) where
   abbrev first : State
   first = record (state_at w.start) { initial = Some c }
 
@@ -258,7 +258,7 @@ module _ (x : Quest) (target : Target) (valid : IsValid (program_in x.walker)) (
   with_first {P} one to all =
       All-cons P first trace.later (to (state_at w.start) one) (All-tail P (state_at w.start) trace.later all)
 
-  abbrev is_goal : IsGoal target trace.visit
+  abbrev is_goal : IsVisitAimedAt target trace.visit
   is_goal = goal trace.visit trace.is_at
 
   unbroken : (mode : Mode) → IsUnbrokenIn mode (state_at w.start) trace.later → IsUnbrokenIn mode first trace.later
@@ -304,11 +304,11 @@ module _ (x : Quest) (target : Target) (valid : IsValid (program_in x.walker)) (
     };
     small = with_first {P = IsSmallState x.walker.cells} trace.heap.small (λ z is. is) trace.small;
     node = last_node w.start (Some c) trace.later ∙ trace.node ∙ is_goal.0;
-    aim = subst (λ (s : StructureForm). IsAimedAt (aim_of target.goal) (heap_of s))
+    aim = subst (λ (s : StructureForm). IsAimedAt (aim_of_goal target.goal) (heap_of s))
         (sym (last_heap-same w.start (Some c) trace.later ∙ trace.ends)) is_goal.1;
   }
 
-  pub shortest : IsClosedAim (aim_of target.goal) → ReplaysShowWitnesses → IsNearest x target list place
+  pub shortest : IsClosedAim (aim_of_goal target.goal) → ReplaysShowWitnesses → IsNearestVisit x target list place
       → IsShortestWitness (question_in x target) whole
   shortest closed show near =
       let found = show (question_in x target) valid closed w.start trace.heap.is trace.heap.two_valued

@@ -14,21 +14,31 @@ use Rattle.tv_witness_laws.specs.Replays.{IsAcceptedReplay, IsSmallState, last_s
 use Rattle.tv_witness_laws.specs.Witness.{HasWitness, IsAimedAt, IsWitness, Question, with_cells}
 use Rattle.tv_heap_steps.specs.Settled.{AreAllSettled}
 use Rattle.tv_heap_search.specs.Goals.{HasGoal}
-use Rattle.tv_heap_search.specs.Levels.{IsNearest}
-use Rattle.tv_heap_search.specs.Retraced.{HasValuesFor, heaps_of, moves_of}
+use Rattle.tv_heap_search.specs.Levels.{IsNearestVisit}
+use Rattle.tv_heap_search.specs.Retraced.{HasValuesFor, heaps_along, moves_of}
 use Rattle.tv_heap_search.specs.Quests.{question_in}
 use Rattle.tv_heap_search.specs.declared.quest.Quest.{Quest}
 use Rattle.tv_heap_search.specs.declared.quest.Target.{Target}
 use Rattle.tv_heap_search.specs.declared.fewest.Fewest.{Fewest}
 use Rattle.tv_heap_search.specs.declared.error.Unanswered.{Unanswered}
 use Rattle.tv_heap_search.specs.declared.error.Unanswered.TheVariants.{Free, TooMany, Memory}
+use Rattle.tv_eval.specs.ScratchForm.{ScratchForm}
+use Rattle.tv_heap_search.specs.Visited.{IsVisitSearch}
 use Rattle.tv_heap_search.specs.declared.visits.Visit.{Visit}
+use Rattle.tv_heap_search.specs.declared.visits.Visits.{Visits}
 use Rattle.tv_heap_search.specs.declared.witness.Witness.{Witness}
 
 -- a nearest goal stands at the place; where there is none, there is no witness
-abbrev pub AnswersSearch : Quest → Target → List Visit → Option ℕ → Type 0
-AnswersSearch x target list (Some place) = HasGoal target list place × IsNearest x target list place
-AnswersSearch x target list None = ¬ HasWitness (question_in x target)
+abbrev pub AnswersTarget : Quest → Target → List Visit → Option ℕ → Type 0
+AnswersTarget x target list (Some place) = HasGoal target list place × IsNearestVisit x target list place
+AnswersTarget x target list None = ¬ HasWitness (question_in x target)
+
+-- so it does, in a search that went on; the room is as it was
+pub record HasSearched (x : Quest) (target : Target) (old_room new_room : ScratchForm) (s : Visits)
+    (place : Option ℕ) : Type 0 where
+  pub kept : IsVisitSearch x s
+  pub answer : AnswersTarget x target s.list.items place
+  pub same : new_room ≡ old_room
 
 -- ---- the witness
 
@@ -48,7 +58,7 @@ pub record IsShown (q : Question) (w : Witness) (first : State) (later : List St
   pub above : ListedCover
   pub begins : first.initial ≡ Some above
   pub number : w.initial ≡ above.structure
-  pub heaps : heaps_of w.track ≡ map (λ (z : State). z.heap) later
+  pub heaps : heaps_along w.track ≡ map (λ (z : State). z.heap) later
   pub values : All (HasValuesFor q.program) (moves_of w.track)
   pub accepted : IsAcceptedReplay q.mode first later
   pub small : All (IsSmallState q.cells) (first ∷ later)
@@ -88,10 +98,10 @@ AnswersFewest q None = ¬ HasWitness q
 
 -- why there is no answer: an action leaves a predicate free; the search with so many cells has none, and no
 -- witness has fewer; or memory ran out
-abbrev pub IsCauseOfNone : Question → Unanswered → Type 0
-IsCauseOfNone q Free = ¬ AreAllSettled q.program.actions
-IsCauseOfNone q (TooMany cells) = (cells ≤ q.cells) × HasNoSmaller q cells
-IsCauseOfNone q Memory = ⊤
+abbrev pub IsCauseUnanswered : Question → Unanswered → Type 0
+IsCauseUnanswered q Free = ¬ AreAllSettled q.program.actions
+IsCauseUnanswered q (TooMany cells) = (cells ≤ q.cells) × HasNoSmaller q cells
+IsCauseUnanswered q Memory = ⊤
 
 -- the same where heaps of fewer than so many cells were gone through
 abbrev pub AnswersBelow : Question → (through : ℕ) → Option Fewest → Type 0

@@ -5,8 +5,8 @@ use Rattle.tv_heap_search.specs.declared.quest.Goal.{Goal}
 use Rattle.tv_heap_search.specs.declared.quest.Goal.TheVariants.{Makes, LiesIn}
 use Rattle.tv_heap_search.specs.declared.quest.Target.{Target}
 use Rattle.tv_heap_search.specs.declared.visits.Visit.{Visit}
-use Rattle.tv_heap_search.specs.Quests.{aim_of}
-use Rattle.tv_heap_search.specs.Visited.{IsAt}
+use Rattle.tv_heap_search.specs.Quests.{aim_of_goal}
+use Rattle.tv_heap_search.specs.Visited.{HasVisitAt}
 use Rattle.tv_heap_steps.specs.Steps.{IsSmallHeap}
 use Rattle.tv_heap_steps.specs.declared.walker.Walker.{Walker}
 use Rattle.tv_model.specs.Form.{Form, form_of}
@@ -24,26 +24,26 @@ pub record CanTellIn (s : StructureForm) (room : ScratchForm) (f : Form) : Type 
   pub fits : HasScratchFor room f s.size
 
 -- it can be found whether the heap of s is as asked
-abbrev pub CanAsk : Goal → StructureForm → ScratchForm → Type 0
-CanAsk (Makes cond) s room = CanTellIn s room (form_of cond.now)
-CanAsk (LiesIn t) s room = IsTwoValued s × (arities_of s ≡ arities_of t.now)
+abbrev pub CanAskGoal : Goal → StructureForm → ScratchForm → Type 0
+CanAskGoal (Makes cond) s room = CanTellIn s room (form_of cond.now)
+CanAskGoal (LiesIn t) s room = IsTwoValued s × (arities_of s ≡ arities_of t.now)
 
 -- each of the visits stands for a heap of few cells
 abbrev pub AreAllHeaps : Walker → List Visit → Type 0
 AreAllHeaps walker list = All (λ (v : Visit). IsSmallHeap walker v.heap) list
 
 -- the heap is as it is asked for, at the node that is asked for
-abbrev pub IsGoal : Target → Visit → Type 0
-IsGoal target v = (v.node ≡ target.node) × IsAimedAt (aim_of target.goal) (heap_of v.heap)
+abbrev pub IsVisitAimedAt : Target → Visit → Type 0
+IsVisitAimedAt target v = (v.node ≡ target.node) × IsAimedAt (aim_of_goal target.goal) (heap_of v.heap)
 
 -- no heap that was met at a place from the one on and before the other is as it is asked for
 abbrev pub HasNoGoal : Target → List Visit → (from to : ℕ) → Type 0
 HasNoGoal target list from to =
-    (place : ℕ) (v : Visit) → from ≤ place → place < to → IsAt list place v → ¬ IsGoal target v
+    (place : ℕ) (v : Visit) → from ≤ place → place < to → HasVisitAt list place v → ¬ IsVisitAimedAt target v
 
 -- the heap that was met at the place is as it is asked for
 abbrev pub HasGoal : Target → List Visit → (place : ℕ) → Type 0
-HasGoal target list place = (v : Visit) × IsAt list place v × IsGoal target v
+HasGoal target list place = (v : Visit) × HasVisitAt list place v × IsVisitAimedAt target v
 
 -- the first place from that one on at which a heap is as it is asked for, if there is one
 abbrev pub IsFirstGoalFrom : Target → List Visit → (from : ℕ) → Option ℕ → Type 0

@@ -13,7 +13,7 @@ use Rattle.tv_two_valued.specs.TwoValued.{heap_of}
 use Rattle.tv_witness_laws.specs.Replays.{IsSmallState, IsUnbrokenIn, last_shown}
 use Rattle.tv_replay_laws.specs.Runs.{MeetsRules}
 use Rattle.tv_heap_steps.specs.Steps.{IsSmallHeap, program_in}
-use Rattle.tv_heap_search.specs.Visited.{HasSteps, IsAt}
+use Rattle.tv_heap_search.specs.Visited.{HasSteps, HasVisitAt}
 use Rattle.tv_heap_search.specs.declared.quest.Quest.{Quest}
 use Rattle.tv_heap_search.specs.declared.retrace.Track.{Track}
 use Rattle.tv_heap_search.specs.declared.visits.Visit.{Visit}
@@ -26,8 +26,8 @@ state_at s = record { node = 0; heap = s; broken = None; rule = None; initial = 
 abbrev pub moves_of : Track → List Move
 moves_of w = map (λ leg. leg.step) w.legs
 
-abbrev pub heaps_of : Track → List StructureForm
-heaps_of w = map (λ leg. leg.heap) w.legs
+abbrev pub heaps_along : Track → List StructureForm
+heaps_along w = map (λ leg. leg.heap) w.legs
 
 -- what a move gives for freely updated predicates, if anything, is a structure over the program's predicates
 abbrev pub HasValuesFor : ProgramForm → Move → Type 0
@@ -44,10 +44,10 @@ pub record IsTraceTo (x : Quest) (list : List Visit) (place : ℕ) (w : Track) :
   pub rules : All MeetsRules (state_at w.start ∷ later)
   pub unbroken : IsUnbrokenIn x.walker.mode (state_at w.start) later
   pub small : All (IsSmallState x.walker.cells) (state_at w.start ∷ later)
-  pub heaps : heaps_of w ≡ map (λ (z : State). z.heap) later
+  pub heaps : heaps_along w ≡ map (λ (z : State). z.heap) later
   pub values : All (HasValuesFor (program_in x.walker)) (moves_of w)
   pub visit : Visit
-  pub is_at : IsAt list place visit
+  pub is_at : HasVisitAt list place visit
   pub node : (last_shown (state_at w.start) later).node ≡ visit.node
   pub ends : (last_shown (state_at w.start) later).heap ≡ visit.heap
   pub steps : HasSteps list place (length w.legs)

@@ -1,9 +1,9 @@
 //! What was met is followed.
 
-ghost use Rattle.std.specs.Prelude.{◌≡◌, ◌<◌, ◌≤◌, OnOk, length};
-ghost use Rattle.tv_heap_search.specs.Quests.{IsReadyQuest};
-ghost use Rattle.tv_heap_search.specs.Visited.{AreLedMet, Grows, IsFrom, IsFromBelow, IsFollowedFrom};
-ghost use Rattle.tv_heap_search.specs.Visited.{AreFollowed, IsFollowedAt, IsSearch, LeaveFrom};
+ghost use Rattle.std.specs.Prelude.{◌<◌, ◌≤◌, OnOk, length};
+ghost use Rattle.tv_heap_search.specs.Visited.{AreLedMet, ArePlacesFollowed, IsPlaceFollowed, IsPlaceFollowedAlong};
+ghost use Rattle.tv_heap_search.specs.Visited.{IsUnderWaySearch, IsVisitFrom, IsVisitFromBelow, IsVisitSearch};
+ghost use Rattle.tv_heap_search.specs.Visited.{LeaveFrom, SearchesOn};
 ghost use Rattle.tv_heap_steps.specs.Steps.{program_in};
 ghost use Rattle.tv_model.specs.Valid.{IsValid};
 
@@ -22,7 +22,7 @@ fn meet_all(
 ) -> Result<(), SearchError>
     requires valid { IsValid (program_in x.now.walker) }
     requires place { before < length visits.old.list.items }
-    requires kept { IsSearch x.now visits.old }
+    requires kept { IsVisitSearch x.now visits.old }
     requires steps { LeaveFrom x.now visits.old.list.items before all.items }
     ensures met { OnOk result (AreLedMet x.now before all.items visits.old visits.new) }
 {
@@ -46,14 +46,11 @@ fn follow_along(
     scratch: &mut Scratch,
     visits: &mut Visits,
 ) -> Result<(), SearchError>
-    requires ready { IsReadyQuest x.now scratch.old }
+    requires under_way { IsUnderWaySearch x.now scratch.old visits.old }
     requires place { place < length visits.old.list.items }
     requires edge { edge < length x.now.walker.ordered.program.now.edges }
-    requires kept { IsSearch x.now visits.old }
-    ensures kept { OnOk result (IsSearch x.now visits.new) }
-    ensures grows { OnOk result (Grows (IsFrom place) visits.old visits.new) }
-    ensures followed { OnOk result (IsFollowedFrom x.now visits.new.list.items place edge) }
-    ensures scratch { scratch.new ≡ scratch.old }
+    ensures on { OnOk result (SearchesOn (IsVisitFrom place) x.now scratch.old scratch.new visits.old visits.new) }
+    ensures followed { OnOk result (IsPlaceFollowedAlong x.now visits.new.list.items place edge) }
 {
     let visit = &visits.list[place];
     if x.walker.ordered.program.edges.as_slice()[edge as usize].from != visit.node {
@@ -71,13 +68,10 @@ fn follow(
     scratch: &mut Scratch,
     visits: &mut Visits,
 ) -> Result<(), SearchError>
-    requires ready { IsReadyQuest x.now scratch.old }
+    requires under_way { IsUnderWaySearch x.now scratch.old visits.old }
     requires place { place < length visits.old.list.items }
-    requires kept { IsSearch x.now visits.old }
-    ensures kept { OnOk result (IsSearch x.now visits.new) }
-    ensures grows { OnOk result (Grows (IsFrom place) visits.old visits.new) }
-    ensures followed { OnOk result (IsFollowedAt x.now visits.new.list.items place) }
-    ensures scratch { scratch.new ≡ scratch.old }
+    ensures on { OnOk result (SearchesOn (IsVisitFrom place) x.now scratch.old scratch.new visits.old visits.new) }
+    ensures followed { OnOk result (IsPlaceFollowed x.now visits.new.list.items place) }
 {
     for edge in 0..x.walker.ordered.program.edges.len() as u32 {
         follow_along(x, place, edge, scratch, visits)?;
@@ -93,13 +87,10 @@ pub(crate) fn follow_level(
     scratch: &mut Scratch,
     visits: &mut Visits,
 ) -> Result<(), SearchError>
-    requires ready { IsReadyQuest x.now scratch.old }
+    requires under_way { IsUnderWaySearch x.now scratch.old visits.old }
     requires to { to ≤ length visits.old.list.items }
-    requires kept { IsSearch x.now visits.old }
-    ensures kept { OnOk result (IsSearch x.now visits.new) }
-    ensures grows { OnOk result (Grows (IsFromBelow to) visits.old visits.new) }
-    ensures followed { OnOk result (AreFollowed x.now visits.new.list.items from to) }
-    ensures scratch { scratch.new ≡ scratch.old }
+    ensures on { OnOk result (SearchesOn (IsVisitFromBelow to) x.now scratch.old scratch.new visits.old visits.new) }
+    ensures followed { OnOk result (ArePlacesFollowed x.now visits.new.list.items from to) }
 {
     for place in from..to {
         follow(x, place, scratch, visits)?;
