@@ -1,5 +1,6 @@
 -- What a search keeps while it meets more.
-use Rattle.std.proofs.Common.{ℕ, ◌≡◌, ◌<◌, ◌≤◌, ◌⊎◌, inl, inr, List, [], ◌∷◌, ◌++◌, length, map, Some, None, All}
+use Rattle.std.proofs.Common.{ℕ, ◌≡◌, ◌<◌, ◌≤◌, ◌⊎◌, inl, inr, List, [], ◌∷◌, ◌++◌, length, map, Some, None}
+use Rattle.std.proofs.Common.{All}
 use Rattle.std.proofs.Common.{Contains, get_or, refl, sym, ap, subst, ◌∙◌, arith}
 use Rattle.std.specs.Prelude.{slice_get}
 use Rattle.std.proofs.lemmas.List.Elements.{All-contains, Contains-push_cases}
@@ -26,9 +27,11 @@ use Rattle.tv_heaps.specs.Heaps.{AreHeapsIn, IsHeapIn}
 use Rattle.tv_heap_steps.specs.Steps.{AreAllSteps, IsSmallHeap, IsSmallStep, program_in}
 use Rattle.tv_heap_steps.specs.declared.along.Led.{Led}
 use Rattle.tv_heap_search.specs.Quests.{IsReadyQuest}
-use Rattle.tv_heap_search.specs.Visited.{AreFirstMet, AreSeenMet, AreLedMet, AreMetOf, MeetsMore, HasVisitAt, IsStartVisit}
+use Rattle.tv_heap_search.specs.Visited.{AreFirstMet, AreSeenMet, AreLedMet, AreMetOf, MeetsMore, HasVisitAt}
+use Rattle.tv_heap_search.specs.Visited.{IsStartVisit}
 use Rattle.tv_heap_search.specs.Visited.{IsVisitFollowedAlong}
-use Rattle.tv_heap_search.specs.Visited.{IsPlaceFollowedAlong, IsVisitFrom, IsLedFrom, IsVisitOrigin, IsVisitSearch, IsVisit, LeaveFrom, visit_places}
+use Rattle.tv_heap_search.specs.Visited.{IsPlaceFollowedAlong, IsVisitFrom, IsLedFrom, IsVisitOrigin}
+use Rattle.tv_heap_search.specs.Visited.{IsVisitSearch, IsVisit, LeaveFrom, visit_places}
 use Rattle.tv_heap_search.specs.declared.quest.Quest.{Quest}
 use Rattle.tv_heap_search.specs.declared.visits.Origin.{Origin}
 use Rattle.tv_heap_search.specs.declared.visits.Origin.TheVariants.{Start, Step}
@@ -72,7 +75,8 @@ module _ (x : Quest) (P : Visit → Type 0) (old new : Visits) (kept : IsVisitSe
     nodes = grows.nodes ∙ kept.nodes;
     within = within;
     known = known;
-    visits = subst (λ l. (place : ℕ) (v : Visit) → HasVisitAt l place v → IsVisit x l place v) (sym grows.is) visit_later;
+    visits = subst (λ l. (place : ℕ) (v : Visit) → HasVisitAt l place v
+        → IsVisit x l place v) (sym grows.is) visit_later;
   }
 
 -- ---- start heaps are met one after the other
@@ -106,7 +110,8 @@ module _ (x : Quest) (valid : IsValid (program_in x.walker)) (s : StructureForm)
         (λ v e. subst (IsVisit x old.list.items (length old.list.items)) (sym e)
         (first_visit x valid s initial old.list.items t is)) known within;
     grows = grows_on IsStartVisit first old new was.grows
-        (grows_weaker (λ v. v ≡ record { node = 0; heap = t; origin = Start }) IsStartVisit (λ v e. ap (λ (w : Visit). w.origin) e)
+        (grows_weaker (λ v. v ≡ record { node = 0; heap = t; origin = Start }) IsStartVisit
+        (λ v e. ap (λ (w : Visit). w.origin) e)
         old new grows);
     met = λ u among. by u (Contains-push_cases so_far t u among);
   }
@@ -156,7 +161,8 @@ module _ (x : Quest) (valid : IsValid (program_in x.walker)) (before : ℕ) (b :
     };
     node = subst (λ n. n < length x.walker.ordered.program.now.nodes) (sym moved.moves.node)
         (All-contains (IsEdge (program_in x.walker)) (program_in x.walker).edges moved.moves.taken.edge valid.edges
-        (slice_get-contains (program_in x.walker).edges led.step.edge moved.moves.taken.edge moved.moves.taken.its_edge)).1;
+        (slice_get-contains
+        (program_in x.walker).edges led.step.edge moved.moves.taken.edge moved.moves.taken.its_edge)).1;
     origin = (
       within,
       (b, at, record { moved = led.moved; node = refl; heap = refl; values = from.values; is = moved; accepted = from.accepted }),
@@ -171,7 +177,8 @@ module _ (x : Quest) (valid : IsValid (program_in x.walker)) (before : ℕ) (b :
     one_led_more has known within = record {
       kept = search_more x (λ v. v ≡ visit_by before led) old new was.kept grows
           (λ v e. subst (IsVisit x old.list.items (length old.list.items)) (sym e)
-          (led_visit old.list.items (slice_get_within old.list.items before b at) at (was.kept.visits before b at).heap))
+          (led_visit old.list.items (slice_get_within old.list.items before b at) at
+          (was.kept.visits before b at).heap))
           known within;
       grows = grows_on (IsVisitFrom before) first old new was.grows
           (grows_weaker (λ v. v ≡ visit_by before led) (IsVisitFrom before)
@@ -229,7 +236,8 @@ followed_then x old new place edge v leds at grows each all met w there taken it
     )
 
 -- an edge that leaves another node leads nowhere
-pub followed_nowhere : (x : Quest) (list : List Visit) (place edge : ℕ) (v : Visit) (taken : Edge) → HasVisitAt list place v
+pub followed_nowhere : (x : Quest) (list : List Visit) (place edge : ℕ) (v : Visit) (taken : Edge)
+    → HasVisitAt list place v
     → slice_get (program_in x.walker).edges edge ≡ Some taken → (taken.from ≡ v.node → ⊥)
     → IsPlaceFollowedAlong x list place edge
 followed_nowhere x list place edge v taken at its_edge not w there other is leaves h step few =

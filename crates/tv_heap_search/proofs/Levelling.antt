@@ -1,5 +1,6 @@
 -- Breadth first: level by level all is met that so many steps reach, so the first goal is a nearest one.
-use Rattle.std.proofs.Common.{ℕ, zero, suc, ◌≡◌, ◌<◌, ◌≤◌, ◌+◌, ◌⊎◌, inl, inr, false, List, [], ◌∷◌, ◌++◌, length, map, Some}
+use Rattle.std.proofs.Common.{ℕ, zero, suc, ◌≡◌, ◌<◌, ◌≤◌, ◌+◌, ◌⊎◌, inl, inr, false, List, [], ◌∷◌, ◌++◌}
+use Rattle.std.proofs.Common.{length, map, Some}
 use Rattle.std.proofs.Common.{None, All, Contains, refl, sym, ap, subst, ◌∙◌, ⊎_elim, arith}
 use Rattle.std.specs.Prelude.{slice_get}
 use Rattle.std.proofs.lemmas.Bool.{cases_lt}
@@ -26,10 +27,13 @@ use Rattle.tv_witness_laws.specs.Witness.{HasFewCells, HasWitness, IsAimedAt, Is
 use Rattle.tv_heap_steps.specs.Steps.{program_in}
 use Rattle.tv_heap_search.specs.Answers.{AnswersTarget}
 use Rattle.tv_heap_search.specs.Goals.{HasNoGoal, IsFirstGoalFrom, IsVisitAimedAt}
-use Rattle.tv_heap_search.specs.Levels.{AreAllStarted, IsAllFollowed, IsHeapLevel, IsNearestVisit, StandsEarly}
+use Rattle.tv_heap_search.specs.Levels.{AreAllStarted, IsAllFollowed, IsHeapLevel, IsNearestVisit}
+use Rattle.tv_heap_search.specs.Levels.{StandsEarly}
 use Rattle.tv_heap_search.specs.Quests.{aim_of_goal, question_in}
-use Rattle.tv_heap_search.specs.Visited.{ArePlacesFollowed, AreMetOf, MeetsMore, HasSteps, HasVisitAt, IsStartVisit, IsVisitFollowed}
-use Rattle.tv_heap_search.specs.Visited.{IsPlaceFollowed, IsVisitFromBelow, IsVisitOrigin, IsVisitSearch, IsVisit, visit_place, visit_places}
+use Rattle.tv_heap_search.specs.Visited.{ArePlacesFollowed, AreMetOf, MeetsMore, HasSteps, HasVisitAt}
+use Rattle.tv_heap_search.specs.Visited.{IsStartVisit, IsVisitFollowed}
+use Rattle.tv_heap_search.specs.Visited.{IsPlaceFollowed, IsVisitFromBelow, IsVisitOrigin, IsVisitSearch}
+use Rattle.tv_heap_search.specs.Visited.{IsVisit, visit_place, visit_places}
 use Rattle.tv_heap_search.specs.declared.quest.Quest.{Quest}
 use Rattle.tv_heap_search.specs.declared.quest.Target.{Target}
 use Rattle.tv_heap_search.specs.declared.visits.Origin.{Origin}
@@ -49,7 +53,8 @@ place_at list place has =
     in let at = found_at list from.0 from.1
     in (at.0, from.0, at.1, from.2)
 
-pub met_heaps : (x : Quest) (s : Visits) → IsVisitSearch x s → (place : Place) → Contains (visit_places s.list.items) place
+pub met_heaps : (x : Quest) (s : Visits) → IsVisitSearch x s → (place : Place)
+    → Contains (visit_places s.list.items) place
     → IsHeap (program_in x.walker) place.heap
 met_heaps x s kept place has =
     let from = place_at s.list.items place has
@@ -107,7 +112,8 @@ first_steps list first place (suc steps) (v, before, step, at, e, rest) =
     absurd (start-step before step
     (sym (All-contains IsStartVisit list v first (slice_get-contains list place v at)) ∙ e))
 
-module _ (x : Quest) (old s : Visits) (kept : IsVisitSearch x s) (none : old.list.items ≡ []) (grows : MeetsMore IsStartVisit old s)
+module _ (x : Quest) (old s : Visits) (kept : IsVisitSearch x s) (none : old.list.items ≡ [])
+    (grows : MeetsMore IsStartVisit old s)
     (met : (place : ℕ) (t : StructureForm) → slice_get x.initial.now place ≡ Some t
     → AreMetOf x s.list.items t) where
   starts-met : AreAllStarted x s.list.items
@@ -344,7 +350,8 @@ module _ (x : Quest) (old new : Visits) (was : IsVisitSearch x old) (kept : IsVi
 -- ---- a goal
 
 module _ (x : Quest) (target : Target) (list : List Visit) (from depth : ℕ) (level : IsHeapLevel x list from depth)
-    (valid : IsValid (program_in x.walker)) (closed : IsClosedAim (aim_of_goal target.goal)) (long : WitnessesAreLong) where
+    (valid : IsValid (program_in x.walker)) (closed : IsClosedAim (aim_of_goal target.goal))
+    (long : WitnessesAreLong) where
   abbrev asked : Question
   asked = question_in x target
 

@@ -1,5 +1,6 @@
 -- The run to what was met at a place, as a replay.
-use Rattle.std.proofs.Common.{ℕ, ◌≡◌, ◌≤◌, List, [], ◌∷◌, ◌++◌, length, Option, Some, None, All, refl, sym, ap, subst}
+use Rattle.std.proofs.Common.{ℕ, ◌≡◌, ◌≤◌, List, [], ◌∷◌, ◌++◌, length, Option, Some, None, All, refl, sym}
+use Rattle.std.proofs.Common.{ap, subst}
 use Rattle.std.proofs.Common.{◌∙◌, ◌<◌, map, reverse, append-nil, append_assoc, ap₂, arith, rules}
 use Rattle.std.specs.Prelude.{IsSome, slice_get}
 use Rattle.std.proofs.lemmas.List.{length-map, length_push, map-append, reverse-append}
@@ -47,7 +48,8 @@ use Rattle.tv_heap_search.proofs.Growing.{at_once}
 
 -- ---- one state more
 
-next_push : (p : ProgramForm) (listing : List (List StructureForm)) (first : State) (moves : List Move) (later : List State)
+next_push : (p : ProgramForm) (listing : List (List StructureForm)) (first : State) (moves : List Move)
+    (later : List State)
     (move : Move) (y : State) → AreNextStates p listing first moves later
     → IsNextState p listing move (last_shown first later) y
     → AreNextStates p listing first (moves ++ move ∷ []) (later ++ y ∷ [])
@@ -92,7 +94,8 @@ state_of m = record {
 
 -- ---- the first place
 
-pub trace_first : (x : Quest) (list : List Visit) (place : ℕ) (v : Visit) → HasVisitAt list place v → IsVisit x list place v
+pub trace_first : (x : Quest) (list : List Visit) (place : ℕ) (v : Visit) → HasVisitAt list place v
+    → IsVisit x list place v
     → v.origin ≡ Start → (start : StructureForm) → start ≡ v.heap
     → IsTraceTo x list place (record { start = start; legs = [] })
 trace_first x list place v at visit e start same =
@@ -124,7 +127,8 @@ trace_first x list place v at visit e start same =
 -- ---- one place more
 
 module _ (x : Quest) (list : List Visit) (place before : ℕ) (v : Visit) (step : Move) (at : HasVisitAt list place v)
-    (e : v.origin ≡ Step before step) (visit : IsVisit x list place v) (w : Track) (trace : IsTraceTo x list before w) where
+    (e : v.origin ≡ Step before step) (visit : IsVisit x list place v) (w : Track)
+    (trace : IsTraceTo x list before w) where
   abbrev p : ProgramForm
   p = program_in x.walker
 
@@ -248,7 +252,8 @@ last_heap-same s c [] = refl
 last_heap-same s c (z ∷ later) = refl
 
 module _ (x : Quest) (target : Target) (valid : IsValid (program_in x.walker)) (list : List Visit) (place : ℕ)
-    (w : Track) (trace : IsTraceTo x list place w) (c : ListedCover) (above : IsFirstAbove w.start x.initial.now (Some c))
+    (w : Track) (trace : IsTraceTo x list place w) (c : ListedCover)
+    (above : IsFirstAbove w.start x.initial.now (Some c))
     (goal : (v : Visit) → HasVisitAt list place v → IsVisitAimedAt target v) where
   abbrev first : State
   first = record (state_at w.start) { initial = Some c }

@@ -1,5 +1,6 @@
 -- Turns of the loops that meet and follow.
-use Rattle.std.proofs.Common.{ℕ, ◌≡◌, ◌<◌, ◌≤◌, ◌⊎◌, inl, inr, false, List, [], ◌∷◌, ◌++◌, length, Some, None, All, Contains}
+use Rattle.std.proofs.Common.{ℕ, ◌≡◌, ◌<◌, ◌≤◌, ◌⊎◌, inl, inr, false, List, [], ◌∷◌, ◌++◌, length, Some, None}
+use Rattle.std.proofs.Common.{All, Contains}
 use Rattle.std.proofs.Common.{◌+◌, get_or, take, ap, sym, subst, ◌∙◌, arith}
 use Rattle.std.specs.Prelude.{slice_get}
 use Rattle.std.proofs.lemmas.Bool.{cases_lt}
@@ -17,8 +18,10 @@ use Rattle.tv_witness_laws.specs.Search.{HasMet}
 use Rattle.tv_heaps.specs.Heaps.{IsHeapIn}
 use Rattle.tv_heap_steps.specs.Steps.{IsAcceptedMove, program_in}
 use Rattle.tv_heap_steps.specs.declared.along.Led.{Led}
-use Rattle.tv_heap_search.specs.Visited.{AreFirstMet, AreSeenMet, AreLedMet, AreMetOf, MeetsMore, IsStartVisit, IsPlaceFollowed}
-use Rattle.tv_heap_search.specs.Visited.{IsPlaceFollowedAlong, IsVisitFrom, IsLedFrom, IsVisitSearch, LeaveFrom, visit_places}
+use Rattle.tv_heap_search.specs.Visited.{AreFirstMet, AreSeenMet, AreLedMet, AreMetOf, MeetsMore}
+use Rattle.tv_heap_search.specs.Visited.{IsStartVisit, IsPlaceFollowed}
+use Rattle.tv_heap_search.specs.Visited.{IsPlaceFollowedAlong, IsVisitFrom, IsLedFrom, IsVisitSearch}
+use Rattle.tv_heap_search.specs.Visited.{LeaveFrom, visit_places}
 use Rattle.tv_heap_search.specs.declared.quest.Quest.{Quest}
 use Rattle.tv_heap_search.specs.declared.visits.Origin.TheVariants.{Start}
 use Rattle.tv_heap_search.specs.declared.visits.Visit.{Visit}
@@ -81,7 +84,8 @@ module _ (x : Quest) (valid : IsValid (program_in x.walker)) (before : ℕ) (fir
 
   pub led_next : (so_far : List Led) (old new : Visits) → AreLedMet x before so_far first old
       → MeetsMore (λ v. v ≡ visit_by before led) old new
-      → HasMet (visit_places new.list.items) led.moved.node (heap_of led.moved.heap) → AreSeenMet new.seen new.list.items
+      → HasMet (visit_places new.list.items) led.moved.node (heap_of led.moved.heap)
+      → AreSeenMet new.seen new.list.items
       → length new.list.items ≤ x.most → AreLedMet x before (so_far ++ led ∷ []) first new
   led_next so_far old new was grows has known most =
       one_led_more x valid before b.0 led leads so_far first old new was
@@ -100,8 +104,10 @@ followed_here x list place followed v at edge taken is =
 
 -- what was met at a place isn't followed twice
 pub edge_next : (x : Quest) (place : ℕ) (old new : Visits) → place < length old.list.items
-    → MeetsMore (IsVisitFrom place) old new → (edge n : ℕ) → ((k : ℕ) → k < n → IsPlaceFollowedAlong x old.list.items place k)
-    → IsPlaceFollowedAlong x new.list.items place n → (k : ℕ) → k < n + 1 → IsPlaceFollowedAlong x new.list.items place k
+    → MeetsMore (IsVisitFrom place) old new → (edge n : ℕ) → ((k : ℕ) → k < n
+    → IsPlaceFollowedAlong x old.list.items place k)
+    → IsPlaceFollowedAlong x new.list.items place n → (k : ℕ) → k < n + 1
+    → IsPlaceFollowedAlong x new.list.items place k
 edge_next x place old new within grows edge n before here k less = by (cases_lt k n)
   where
     by : (k < n) ⊎ (n ≤ k) → IsPlaceFollowedAlong x new.list.items place k

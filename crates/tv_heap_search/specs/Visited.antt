@@ -153,7 +153,8 @@ LeaveFrom x list place leds = (b : Visit) → HasVisitAt list place b → All (I
 
 -- what was met at the place is followed along the edge
 abbrev pub IsPlaceFollowedAlong : Quest → List Visit → (place edge : ℕ) → Type 0
-IsPlaceFollowedAlong x list place edge = (v : Visit) → HasVisitAt list place v → IsVisitFollowedAlong x list edge v
+IsPlaceFollowedAlong x list place edge =
+    (v : Visit) → HasVisitAt list place v → IsVisitFollowedAlong x list edge v
 
 -- the start heaps were met one after the other
 pub record AreFirstMet (x : Quest) (so_far : List StructureForm) (old new : Visits) : Type 0 where

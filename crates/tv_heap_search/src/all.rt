@@ -3,7 +3,8 @@
 ghost use Rattle.std.specs.Prelude.{◌≡◌, ◌≤◌, ◌+◌, All, IfErr, IfOk, None, OnOk, length, replicate};
 ghost use Rattle.tv_heap_search.specs.Many.{AnswersAt, AreAnswers, IsCauseOfNothing};
 ghost use Rattle.tv_heap_search.specs.Levels.{IsDoneSearch};
-ghost use Rattle.tv_heap_search.specs.Quests.{CanFind, IsGoalOver, IsReadyQuest, IsRequest, question_in, question_of};
+ghost use Rattle.tv_heap_search.specs.Quests.{CanFind, IsGoalOver, IsReadyQuest, IsRequest, question_in};
+ghost use Rattle.tv_heap_search.specs.Quests.{question_of};
 ghost use Rattle.tv_heap_steps.specs.Settled.{AreAllSettled};
 ghost use Rattle.tv_model.specs.Program.{program_of};
 

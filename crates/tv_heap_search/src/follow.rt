@@ -1,8 +1,10 @@
 //! What was met is followed.
 
 ghost use Rattle.std.specs.Prelude.{◌<◌, ◌≤◌, OnOk, length};
-ghost use Rattle.tv_heap_search.specs.Visited.{AreLedMet, ArePlacesFollowed, IsPlaceFollowed, IsPlaceFollowedAlong};
-ghost use Rattle.tv_heap_search.specs.Visited.{IsUnderWaySearch, IsVisitFrom, IsVisitFromBelow, IsVisitSearch};
+ghost use Rattle.tv_heap_search.specs.Visited.{AreLedMet, ArePlacesFollowed, IsPlaceFollowed};
+ghost use Rattle.tv_heap_search.specs.Visited.{IsPlaceFollowedAlong};
+ghost use Rattle.tv_heap_search.specs.Visited.{IsUnderWaySearch, IsVisitFrom, IsVisitFromBelow};
+ghost use Rattle.tv_heap_search.specs.Visited.{IsVisitSearch};
 ghost use Rattle.tv_heap_search.specs.Visited.{LeaveFrom, SearchesOn};
 ghost use Rattle.tv_heap_steps.specs.Steps.{program_in};
 ghost use Rattle.tv_model.specs.Valid.{IsValid};
@@ -49,7 +51,8 @@ fn follow_along(
     requires under_way { IsUnderWaySearch x.now scratch.old visits.old }
     requires place { place < length visits.old.list.items }
     requires edge { edge < length x.now.walker.ordered.program.now.edges }
-    ensures on { OnOk result (SearchesOn (IsVisitFrom place) x.now scratch.old scratch.new visits.old visits.new) }
+    ensures on { OnOk result
+        (SearchesOn (IsVisitFrom place) x.now scratch.old scratch.new visits.old visits.new) }
     ensures followed { OnOk result (IsPlaceFollowedAlong x.now visits.new.list.items place edge) }
 {
     let visit = &visits.list[place];
@@ -70,7 +73,8 @@ fn follow(
 ) -> Result<(), SearchError>
     requires under_way { IsUnderWaySearch x.now scratch.old visits.old }
     requires place { place < length visits.old.list.items }
-    ensures on { OnOk result (SearchesOn (IsVisitFrom place) x.now scratch.old scratch.new visits.old visits.new) }
+    ensures on { OnOk result
+        (SearchesOn (IsVisitFrom place) x.now scratch.old scratch.new visits.old visits.new) }
     ensures followed { OnOk result (IsPlaceFollowed x.now visits.new.list.items place) }
 {
     for edge in 0..x.walker.ordered.program.edges.len() as u32 {
@@ -89,7 +93,8 @@ pub(crate) fn follow_level(
 ) -> Result<(), SearchError>
     requires under_way { IsUnderWaySearch x.now scratch.old visits.old }
     requires to { to ≤ length visits.old.list.items }
-    ensures on { OnOk result (SearchesOn (IsVisitFromBelow to) x.now scratch.old scratch.new visits.old visits.new) }
+    ensures on { OnOk result
+        (SearchesOn (IsVisitFromBelow to) x.now scratch.old scratch.new visits.old visits.new) }
     ensures followed { OnOk result (ArePlacesFollowed x.now visits.new.list.items from to) }
 {
     for place in from..to {

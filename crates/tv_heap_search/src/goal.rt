@@ -3,7 +3,8 @@
 ghost use Rattle.std.specs.Prelude.{◌≡◌, ◌<◌, ◌↔◌, IfOk, IsTrue};
 ghost use Rattle.tv_eval.specs.AssignmentForm.{assignment_of};
 ghost use Rattle.tv_eval.specs.Formulas.{AreAssigned};
-ghost use Rattle.tv_heap_search.specs.Goals.{CanAskGoal, CanTellIn, IsVisitAimedAt, IsFirstGoalFrom, AreAllHeaps};
+ghost use Rattle.tv_heap_search.specs.Goals.{CanAskGoal, CanTellIn, IsVisitAimedAt, IsFirstGoalFrom};
+ghost use Rattle.tv_heap_search.specs.Goals.{AreAllHeaps};
 ghost use Rattle.tv_heap_search.specs.Quests.{IsGoalOver, IsReadyQuest, aim_of_goal};
 ghost use Rattle.tv_heap_steps.specs.Steps.{IsSmallHeap};
 ghost use Rattle.tv_model.specs.Form.{form_of};
@@ -21,8 +22,8 @@ use tv_model::Formula;
 use tv_struct::Structure;
 use tv_two_valued::holds;
 
-/// Whether the condition is true under the assignment in the heap that `s` stands for. The scratch is given back
-/// as it was.
+/// Whether the condition is true under the assignment in the heap that `s` stands for. The scratch is given
+/// back as it was.
 fn is_true(cond: &Formula, s: &Structure, a: &Assignment, scratch: &mut Scratch) -> bool
     requires can { CanTellIn s.now scratch.old (form_of cond.now) }
     requires assigned { AreAssigned s.now.size a.now (form_of cond.now) }

@@ -4,7 +4,8 @@ ghost use Rattle.std.specs.Prelude.{◌≡◌, ◌<◌, ◌^◌, All, IfOk, Some
 ghost use Rattle.tv_heap_search.specs.Answers.{AnswersQuestion, AnswersTarget, IsNumberAbove};
 ghost use Rattle.tv_heap_search.specs.Answers.{IsShortestWitness};
 ghost use Rattle.tv_heap_search.specs.Levels.{IsBegun};
-ghost use Rattle.tv_heap_search.specs.Quests.{CanFind, IsGoalOver, IsReadyQuest, IsRequest, question_in, question_of};
+ghost use Rattle.tv_heap_search.specs.Quests.{CanFind, IsGoalOver, IsReadyQuest, IsRequest, question_in};
+ghost use Rattle.tv_heap_search.specs.Quests.{question_of};
 ghost use Rattle.tv_heap_search.specs.Traces.{CanTrace};
 ghost use Rattle.tv_heap_steps.specs.Settled.{AreAllSettled};
 ghost use Rattle.tv_model.specs.Program.{program_of};

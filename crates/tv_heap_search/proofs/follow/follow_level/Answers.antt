@@ -46,7 +46,8 @@ loop-place-preserved c =
     in record {
       kept = c.in_ok-follow.ensures.on.kept;
       grows = grows_on (IsVisitFromBelow c.args.to) c.args.visits.now middle new c.loop-place.invariant.grows
-          (grows_weaker (IsVisitFrom place) (IsVisitFromBelow c.args.to) below middle new c.in_ok-follow.ensures.on.grows);
+          (grows_weaker (IsVisitFrom place)
+          (IsVisitFromBelow c.args.to) below middle new c.in_ok-follow.ensures.on.grows);
       followed = followed_next x (IsVisitFrom place) middle new c.in_ok-follow.ensures.on.grows c.args.from place within
           c.loop-place.invariant.followed c.in_ok-follow.ensures.followed;
       same = c.in_ok-follow.ensures.on.same ∙ c.loop-place.invariant.same;
