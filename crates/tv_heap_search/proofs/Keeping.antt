@@ -165,7 +165,18 @@ module _ (x : Quest) (valid : IsValid (program_in x.walker)) (before : ℕ) (b :
         (program_in x.walker).edges led.step.edge moved.moves.taken.edge moved.moves.taken.its_edge)).1;
     origin = (
       within,
-      (b, at, record { moved = led.moved; node = refl; heap = refl; values = from.values; is = moved; accepted = from.accepted }),
+      (
+        b,
+        at,
+        record {
+          moved = led.moved;
+          node = refl;
+          heap = refl;
+          values = from.values;
+          is = moved;
+          accepted = from.accepted;
+        },
+      ),
     );
   }
 

@@ -27,7 +27,8 @@ loop-from-preserved c =
       within = omega (arith, c.len-to.ensures, longer_on (IsVisitFromBelow to) old new grows);
       level = (
         level.0 + 1,
-        level_next x old new c.loop-from.invariant.kept c.in_ok-follow_level.ensures.on.kept to from level.0 c.len-to.ensures
+        level_next x old new c.loop-from.invariant.kept c.in_ok-follow_level.ensures.on.kept to from level.0
+            c.len-to.ensures
             level.1 grows c.in_ok-follow_level.ensures.followed,
       );
       same = c.in_ok-follow_level.ensures.on.same ∙ c.loop-from.invariant.same;
