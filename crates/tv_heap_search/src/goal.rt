@@ -6,7 +6,6 @@ ghost use Rattle.tv_eval.specs.Formulas.{AreAssigned};
 ghost use Rattle.tv_heap_search.specs.Goals.{CanAskGoal, CanTellIn, IsVisitAimedAt, IsFirstGoalFrom};
 ghost use Rattle.tv_heap_search.specs.Goals.{AreAllHeaps};
 ghost use Rattle.tv_heap_search.specs.Quests.{IsGoalOver, IsReadyQuest, aim_of_goal};
-ghost use Rattle.tv_heap_steps.specs.Steps.{IsSmallHeap};
 ghost use Rattle.tv_model.specs.Form.{form_of};
 ghost use Rattle.tv_model.specs.Rules.{blank};
 ghost use Rattle.tv_model.specs.Truth.{Truth};

@@ -1,6 +1,6 @@
 //! What a search needs of a program, made once.
 
-ghost use Rattle.std.specs.Prelude.{◌≡◌, IfOk};
+ghost use Rattle.std.specs.Prelude.{IfOk};
 ghost use Rattle.tv_eval.specs.ScratchForm.{IsMadeFor};
 ghost use Rattle.tv_heap_search.specs.Prepared.{IsPrepared, IsQuestBy};
 ghost use Rattle.tv_model.specs.Program.{program_of};
