@@ -1,5 +1,6 @@
 -- What is asked of the last heap can be found out.
-use Rattle.std.proofs.Common.{ℕ, ◌≡◌, ◌<◌, ◌≤◌, ◌+◌, ◌↔◌, ◌⊎◌, inl, inr, Bool, false, List, [], Option, IsTrue, sym, subst}
+use Rattle.std.proofs.Common.{ℕ, ◌≡◌, ◌<◌, ◌≤◌, ◌+◌, ◌↔◌, ◌⊎◌, inl, inr, Bool, false, List, [], Option}
+use Rattle.std.proofs.Common.{IsTrue, sym, subst}
 use Rattle.std.proofs.Common.{◌∙◌, arith}
 use Rattle.std.proofs.lemmas.Bool.{cases_lt}
 use Rattle.tv_eval.specs.Formulas.{AreAssigned}
@@ -56,7 +57,8 @@ pub truth_closed : (h : Heap) (a b : Assignment) (f : Form) → IsOver [] f → 
 truth_closed h a b f over = truth-agreed h a b f (λ v free. absurd (Contains-none v (over v free)))
 
 -- whether what was met is a goal
-pub no_goal_elsewhere : (target : Target) (v : Visit) → (v.node ≡ target.node → ⊥) → IsTrue false ↔ IsVisitAimedAt target v
+pub no_goal_elsewhere : (target : Target) (v : Visit) → (v.node ≡ target.node → ⊥) → IsTrue false
+    ↔ IsVisitAimedAt target v
 no_goal_elsewhere target v other = isnt_so (IsVisitAimedAt target v) (λ goal. other goal.0)
 
 pub goal_there : (target : Target) (v : Visit) (is : Bool) → v.node ≡ target.node
@@ -73,7 +75,8 @@ heaps_kept x s kept =
 pub none_between : (target : Target) (list : List Visit) (from : ℕ) → HasNoGoal target list from from
 none_between target list from place v le less at = absurd (omega (arith, le, less))
 
-pub none_next : (target : Target) (list : List Visit) (from n : ℕ) (w : Visit) → HasVisitAt list n w → (IsVisitAimedAt target w → ⊥)
+pub none_next : (target : Target) (list : List Visit) (from n : ℕ) (w : Visit) → HasVisitAt list n w
+    → (IsVisitAimedAt target w → ⊥)
     → HasNoGoal target list from n → HasNoGoal target list from (n + 1)
 none_next target list from n w there not before place v le less at = by (cases_lt place n)
   where

@@ -1,5 +1,6 @@
 -- One target after the other, and one number of cells after the other.
-use Rattle.std.proofs.Common.{ℕ, zero, suc, ◌≡◌, ◌≢◌, ◌<◌, ◌≤◌, ◌+◌, ◌⊎◌, inl, inr, List, [], ◌∷◌, length, Option, Some}
+use Rattle.std.proofs.Common.{ℕ, zero, suc, ◌≡◌, ◌≢◌, ◌<◌, ◌≤◌, ◌+◌, ◌⊎◌, inl, inr, List, [], ◌∷◌, length}
+use Rattle.std.proofs.Common.{Option, Some}
 use Rattle.std.proofs.Common.{None, replicate, refl, sym, ap, subst, ◌∙◌, arith}
 use Rattle.std.specs.Prelude.{slice_get}
 use Rattle.std.proofs.Math.ListN.{set}
@@ -110,7 +111,8 @@ module _ (ask : Target → Question) (targets : List Target) where
           → slice_get (set found place new) i ≡ Some o
           → i < place + 1 → (i < place) ⊎ (place ≤ i) → AnswersBelow (ask t) (cells + 1) o
       by i t o there at less (inl lt) =
-          (each i t o there (sym (set_elsewhere found place new i (λ same. absurd (omega (arith, lt, same)))) ∙ at)).0 lt
+          (each i t o there (sym (set_elsewhere found place new i (λ same. absurd (omega (arith, lt, same))))
+          ∙ at)).0 lt
       by i t o there at less (inr le) =
           let same : i ≡ place = omega (arith, less, le)
           in let its' : t ≡ w = same_Some t w (sym there ∙ ap (slice_get targets) same ∙ its)

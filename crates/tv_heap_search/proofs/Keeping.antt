@@ -74,7 +74,8 @@ module _ (x : Quest) (P : Visit → Type 0) (old new : Visits) (kept : IsVisitSe
     nodes = grows.nodes ∙ kept.nodes;
     within = within;
     known = known;
-    visits = subst (λ l. (place : ℕ) (v : Visit) → HasVisitAt l place v → IsVisit x l place v) (sym grows.is) visit_later;
+    visits = subst (λ l. (place : ℕ) (v : Visit) → HasVisitAt l place v
+        → IsVisit x l place v) (sym grows.is) visit_later;
   }
 
 -- ---- start heaps are met one after the other
@@ -108,7 +109,8 @@ module _ (x : Quest) (valid : IsValid (program_in x.walker)) (s : StructureForm)
         (λ v e. subst (IsVisit x old.list.items (length old.list.items)) (sym e)
         (first_visit x valid s initial old.list.items t is)) known within;
     grows = grows_on IsStartVisit first old new was.grows
-        (grows_weaker (λ v. v ≡ record { node = 0; heap = t; origin = Start }) IsStartVisit (λ v e. ap (λ (w : Visit). w.origin) e)
+        (grows_weaker (λ v. v ≡ record { node = 0; heap = t; origin = Start }) IsStartVisit
+        (λ v e. ap (λ (w : Visit). w.origin) e)
         old new grows);
     met = λ u among. by u (Contains-push_cases so_far t u among);
   }
@@ -266,7 +268,8 @@ followed_then x old new place edge v leds at grows each all met w there taken it
     )
 
 -- an edge that leaves another node leads nowhere
-pub followed_nowhere : (x : Quest) (list : List Visit) (place edge : ℕ) (v : Visit) (taken : Edge) → HasVisitAt list place v
+pub followed_nowhere : (x : Quest) (list : List Visit) (place edge : ℕ) (v : Visit) (taken : Edge)
+    → HasVisitAt list place v
     → slice_get (program_in x.walker).edges edge ≡ Some taken → (taken.from ≡ v.node → ⊥)
     → IsPlaceFollowedAlong x list place edge
 followed_nowhere x list place edge v taken at its_edge not w there other is leaves h step few =

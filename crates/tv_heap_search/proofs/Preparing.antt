@@ -1,5 +1,5 @@
 -- A quest that was prepared can be made, and asks what the request does.
-use Rattle.std.proofs.Common.{ℕ, ◌≡◌, ◌<◌, map, All, sym, subst, arith}
+use Rattle.std.proofs.Common.{ℕ, ◌≡◌, ◌<◌, ◌∙◌, List, map, All, ap, sym, subst, arith}
 use Rattle.tv_eval.specs.ScratchForm.{ScratchForm, IsMadeFor}
 use Rattle.tv_heap_steps.specs.Settled.{AreAllSettled}
 use Rattle.tv_model.specs.declared.formula.PredId.{PredId}
@@ -13,7 +13,7 @@ use Rattle.tv_rules.specs.EntryForms.{rules_of}
 use Rattle.tv_structure_form.specs.StructureForm.{StructureForm, IsOver}
 use Rattle.tv_update.specs.Redefined.{AreAllDefined}
 use Rattle.tv_heap_search.specs.Prepared.{IsPrepared, IsQuestBy}
-use Rattle.tv_heap_search.specs.Quests.{IsGoalOver, IsReadyQuest, question_in, question_of}
+use Rattle.tv_heap_search.specs.Quests.{IsGoalOver, IsReadyQuest, aim_of_goal, question_in, question_of}
 use Rattle.tv_heap_search.specs.declared.prepared.Prepared.{Prepared}
 use Rattle.tv_heap_search.specs.declared.quest.Quest.{Quest}
 use Rattle.tv_heap_search.specs.declared.quest.Request.{Request}
@@ -21,7 +21,14 @@ use Rattle.tv_heap_search.specs.declared.quest.Target.{Target}
 
 module _ (x : Request) (prepared : Prepared) (quest : Quest) (by : IsQuestBy x prepared quest) where
   pub asked_same : (target : Target) → question_in quest target ≡ question_of x target
-  asked_same target = rw (by.program, by.mode, by.initial, by.cells) refl
+  asked_same target = λ i. record {
+    program = program_of (by.program i);
+    mode = by.mode i;
+    initial = by.initial i;
+    cells = by.cells i;
+    node = target.node;
+    aim = aim_of_goal target.goal;
+  }
 
   pub goal_over : (target : Target) → IsGoalOver x.program.now target.goal
       → IsGoalOver quest.walker.ordered.program.now target.goal
@@ -36,11 +43,19 @@ module _ (x : Request) (prepared : Prepared) (quest : Quest) (by : IsQuestBy x p
       walk = record {
         valid = subst (λ (p : Program). IsValid (program_of p)) (sym by.program) valid;
         settled = subst (λ (p : Program). AreAllSettled (program_of p).actions) (sym by.program) settled;
-        order = rw (by.program, by.order) made.order;
-        properties = rw (by.program, by.properties) made.properties;
+        order = subst (λ (p : Program). AreAllDefined (program_of p)
+            (map (λ (d : PredId). d.0) quest.walker.ordered.order.now))
+            (sym by.program)
+            (subst (λ (o : List PredId). AreAllDefined (program_of x.program.now) (map (λ (d : PredId). d.0) o))
+            (sym by.order) made.order);
+        properties = subst (λ (p : Program). map rule_of quest.walker.properties.now
+            ≡ rules_of_properties 0 (map pred_of p.vocab.preds)) (sym by.program)
+            (ap (map rule_of) by.properties ∙ made.properties);
         room = subst (λ (p : Program). IsMadeFor (program_of p) 256 room) (sym by.program) fits;
         cells = omega (arith, by.cells, cells);
       };
-      closed = rw (by.program, by.closed) made.closed;
-      initial = rw (by.program, by.initial) initial;
+      closed = ap rules_of by.closed ∙ made.closed
+          ∙ ap (λ (p : Program). closed_rules (program_of p)) (sym by.program);
+      initial = subst (λ (p : Program). All (IsOver p.vocab) quest.initial.now) (sym by.program)
+          (subst (All (IsOver x.program.now.vocab)) (sym by.initial) initial);
     }

@@ -91,8 +91,10 @@ followed_here x list place followed v at edge taken is =
 
 -- what was met at a place isn't followed twice
 pub edge_next : (x : Quest) (place : ℕ) (old new : Visits) → place < length old.list.items
-    → MeetsMore (IsVisitFrom place) old new → (edge n : ℕ) → ((k : ℕ) → k < n → IsPlaceFollowedAlong x old.list.items place k)
-    → IsPlaceFollowedAlong x new.list.items place n → (k : ℕ) → k < n + 1 → IsPlaceFollowedAlong x new.list.items place k
+    → MeetsMore (IsVisitFrom place) old new → (edge n : ℕ) → ((k : ℕ) → k < n
+    → IsPlaceFollowedAlong x old.list.items place k)
+    → IsPlaceFollowedAlong x new.list.items place n → (k : ℕ) → k < n + 1
+    → IsPlaceFollowedAlong x new.list.items place k
 edge_next x place old new within grows edge n before here k less = by (cases_lt k n)
   where
     by : (k < n) ⊎ (n ≤ k) → IsPlaceFollowedAlong x new.list.items place k

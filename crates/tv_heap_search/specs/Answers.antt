@@ -22,13 +22,23 @@ use Rattle.tv_heap_search.specs.declared.quest.Target.{Target}
 use Rattle.tv_heap_search.specs.declared.fewest.Fewest.{Fewest}
 use Rattle.tv_heap_search.specs.declared.error.Unanswered.{Unanswered}
 use Rattle.tv_heap_search.specs.declared.error.Unanswered.TheVariants.{Free, TooMany, Memory}
+use Rattle.tv_eval.specs.ScratchForm.{ScratchForm}
+use Rattle.tv_heap_search.specs.Visited.{IsVisitSearch}
 use Rattle.tv_heap_search.specs.declared.visits.Visit.{Visit}
+use Rattle.tv_heap_search.specs.declared.visits.Visits.{Visits}
 use Rattle.tv_heap_search.specs.declared.witness.Witness.{Witness}
 
 -- a nearest goal stands at the place; where there is none, there is no witness
 abbrev pub AnswersTarget : Quest → Target → List Visit → Option ℕ → Type 0
 AnswersTarget x target list (Some place) = HasGoal target list place × IsNearestVisit x target list place
 AnswersTarget x target list None = ¬ HasWitness (question_in x target)
+
+-- so it does, in a search that went on; the room is as it was
+pub record HasSearched (x : Quest) (target : Target) (old_room new_room : ScratchForm) (s : Visits)
+    (place : Option ℕ) : Type 0 where
+  pub kept : IsVisitSearch x s
+  pub answer : AnswersTarget x target s.list.items place
+  pub same : new_room ≡ old_room
 
 -- ---- the witness
 

@@ -7,10 +7,13 @@ use Rattle.tv_witness_laws.specs.Search.{Place, HasMet, IsExhaustiveTo}
 use Rattle.tv_witness_laws.specs.Witness.{HasFewCells, IsWitness}
 use Rattle.tv_heap_steps.specs.Steps.{program_in}
 use Rattle.tv_heap_search.specs.Quests.{question_in}
-use Rattle.tv_heap_search.specs.Visited.{ArePlacesFollowed, HasSteps, HasVisitAt, visit_place, visit_places}
+use Rattle.tv_heap_search.specs.Visited.{ArePlacesFollowed, HasSteps, HasVisitAt, IsVisitSearch, visit_place}
+use Rattle.tv_heap_search.specs.Visited.{visit_places}
 use Rattle.tv_heap_search.specs.declared.quest.Quest.{Quest}
 use Rattle.tv_heap_search.specs.declared.quest.Target.{Target}
 use Rattle.tv_heap_search.specs.declared.visits.Visit.{Visit}
+use Rattle.tv_heap_search.specs.declared.visits.Visits.{Visits}
+use Rattle.tv_eval.specs.ScratchForm.{ScratchForm}
 
 -- the heap stands before that place
 abbrev pub StandsEarly : List Visit → (to : ℕ) → Place → Type 0
@@ -47,6 +50,18 @@ pub record IsAllFollowed (x : Quest) (list : List Visit) : Type 0 where
   pub depth : ℕ
   pub all : length list ≤ from
   pub level : IsHeapLevel x list from depth
+
+-- a search of which all that was met is followed; the room is as it was
+pub record IsDoneSearch (x : Quest) (old_room new_room : ScratchForm) (s : Visits) : Type 0 where
+  pub kept : IsVisitSearch x s
+  pub all : IsAllFollowed x s.list.items
+  pub same : new_room ≡ old_room
+
+-- a search that has met the start heaps; the room is as it was
+pub record IsBegun (x : Quest) (old_room new_room : ScratchForm) (s : Visits) : Type 0 where
+  pub kept : IsVisitSearch x s
+  pub level : IsHeapLevel x s.list.items 0 0
+  pub same : new_room ≡ old_room
 
 -- no witness has fewer steps than led to what was met at the place
 abbrev pub IsNearestVisit : Quest → Target → List Visit → (place : ℕ) → Type 0

@@ -1,5 +1,5 @@
 -- What is searched for.
-use Rattle.std.specs.Prelude.{◌≡◌, ◌≤◌, ◌+◌, [], All}
+use Rattle.std.specs.Prelude.{◌≡◌, ◌<◌, ◌≤◌, ◌+◌, ◌^◌, [], All, length}
 use Rattle.tv_eval.specs.ScratchForm.{ScratchForm}
 use Rattle.tv_heap_search.specs.declared.quest.Goal.{Goal}
 use Rattle.tv_heap_search.specs.declared.quest.Goal.TheVariants.{Makes, LiesIn}
@@ -10,7 +10,7 @@ use Rattle.tv_heap_steps.specs.Steps.{IsReadyToWalk, program_in}
 use Rattle.tv_model.specs.declared.program.Program.{Program}
 use Rattle.tv_model.specs.Form.{Form, form_of, height}
 use Rattle.tv_model.specs.Program.{program_of}
-use Rattle.tv_model.specs.Valid.{IsFormula, IsOver}
+use Rattle.tv_model.specs.Valid.{IsFormula, IsOver, IsValid}
 use Rattle.tv_quantifiers.specs.Heights.{program_height}
 use Rattle.tv_rules.specs.Closing.{closed_rules}
 use Rattle.tv_rules.specs.EntryForms.{rules_of}
@@ -50,9 +50,23 @@ IsGoalOver program (Makes cond) =
     × (height (form_of cond.now) ≤ program_height (program_of program) + 4)
 IsGoalOver program (LiesIn s) = form.IsOver program.vocab s.now
 
+-- the program is valid, the initial structures are over its predicates, and not too many, and a heap of so
+-- many cells has place for one more
+pub record IsRequest (x : Request) : Type 0 where
+  pub valid : IsValid (program_of x.program.now)
+  pub initial : All (form.IsOver x.program.now.vocab) x.initial.now
+  pub few : length x.initial.now < 2 ^ 32
+  pub cells : x.cells < 256
+
 -- a search can be made: steps can be, the closed rules are the program's, and the initial structures are over
 -- its predicates
 pub record IsReadyQuest (x : Quest) (room : ScratchForm) : Type 0 where
   pub walk : IsReadyToWalk x.walker room
   pub closed : rules_of x.closed.now ≡ closed_rules (program_in x.walker)
   pub initial : All (form.IsOver x.walker.ordered.program.now.vocab) x.initial.now
+
+-- the goal can be searched for
+pub record CanFind (x : Quest) (target : Target) (room : ScratchForm) : Type 0 where
+  pub ready : IsReadyQuest x room
+  pub few : length x.initial.now < 2 ^ 32
+  pub goal : IsGoalOver x.walker.ordered.program.now target.goal

@@ -18,6 +18,8 @@ use Rattle.tv_witness_laws.specs.Witness.{HasFewCells}
 use Rattle.tv_heap_steps.specs.Steps.{IsAcceptedMove, IsFairMove, IsSmallHeap, program_in}
 use Rattle.tv_replay_laws.specs.JudgedRules.{IsFirstUnmet, judged_rules}
 use Rattle.tv_heap_steps.specs.declared.along.Led.{Led}
+use Rattle.tv_eval.specs.ScratchForm.{ScratchForm}
+use Rattle.tv_heap_search.specs.Quests.{IsReadyQuest}
 use Rattle.tv_heap_search.specs.declared.quest.Quest.{Quest}
 use Rattle.tv_heap_search.specs.declared.visits.Origin.{Origin}
 use Rattle.tv_heap_search.specs.declared.visits.Origin.TheVariants.{Start, Step}
@@ -82,6 +84,18 @@ pub record IsVisitSearch (x : Quest) (s : Visits) : Type 0 where
   pub known : AreSeenMet s.seen s.list.items
   pub visits : (place : ℕ) (v : Visit) → HasVisitAt s.list.items place v → IsVisit x s.list.items place v
 
+-- a search that can go on
+pub record IsUnderWaySearch (x : Quest) (room : ScratchForm) (s : Visits) : Type 0 where
+  pub ready : IsReadyQuest x room
+  pub kept : IsVisitSearch x s
+
+-- it went on, and more was met, all of it with the property; the room is as it was
+pub record SearchesOn (P : Visit → Type 0) (x : Quest) (old_room new_room : ScratchForm) (old new : Visits)
+    : Type 0 where
+  pub kept : IsVisitSearch x new
+  pub grows : MeetsMore P old new
+  pub same : new_room ≡ old_room
+
 -- so many steps led to what was met at the place
 abbrev pub HasSteps : List Visit → (place steps : ℕ) → Type 0
 HasSteps list place zero = (v : Visit) × HasVisitAt list place v × (v.origin ≡ Start)
@@ -140,7 +154,8 @@ LeavesFrom x list place led = (b : Visit) × HasVisitAt list place b × IsLedFro
 
 -- what was met at the place is followed along the edge
 abbrev pub IsPlaceFollowedAlong : Quest → List Visit → (place edge : ℕ) → Type 0
-IsPlaceFollowedAlong x list place edge = (v : Visit) → HasVisitAt list place v → IsVisitFollowedAlong x list edge v
+IsPlaceFollowedAlong x list place edge =
+    (v : Visit) → HasVisitAt list place v → IsVisitFollowedAlong x list edge v
 
 -- the start heaps were met one after the other
 pub record AreFirstMet (x : Quest) (so_far : List StructureForm) (old new : Visits) : Type 0 where

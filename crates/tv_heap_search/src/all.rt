@@ -1,14 +1,12 @@
 //! Witnesses of as few cells as any, for many targets in one search.
 
-ghost use Rattle.std.specs.Prelude.{◌≡◌, ◌<◌, ◌≤◌, ◌+◌, ◌^◌, All, IfErr, IfOk, None, OnOk, length, replicate};
+ghost use Rattle.std.specs.Prelude.{◌≡◌, ◌≤◌, ◌+◌, All, IfErr, IfOk, None, OnOk, length, replicate};
 ghost use Rattle.tv_heap_search.specs.Many.{AnswersAt, AreAnswers, IsCauseOfNothing};
-ghost use Rattle.tv_heap_search.specs.Levels.{IsAllFollowed};
-ghost use Rattle.tv_heap_search.specs.Quests.{IsGoalOver, IsReadyQuest, question_in, question_of};
-ghost use Rattle.tv_heap_search.specs.Visited.{IsVisitSearch};
+ghost use Rattle.tv_heap_search.specs.Levels.{IsDoneSearch};
+ghost use Rattle.tv_heap_search.specs.Quests.{CanFind, IsGoalOver, IsReadyQuest, IsRequest, question_in};
+ghost use Rattle.tv_heap_search.specs.Quests.{question_of};
 ghost use Rattle.tv_heap_steps.specs.Settled.{AreAllSettled};
 ghost use Rattle.tv_model.specs.Program.{program_of};
-ghost use Rattle.tv_model.specs.Valid.{IsValid};
-ghost use Rattle.tv_structure_form.specs.StructureForm.{IsOver};
 
 use crate::error::{SearchError, Unanswered};
 use crate::fewest::{Fewest, with_cells};
@@ -33,9 +31,7 @@ pub struct Findings {
 /// All heaps to which runs of heaps of few cells lead.
 pub(crate) fn explored(x: &Quest<'_>, scratch: &mut Scratch) -> Result<Visits, SearchError>
     requires ready { IsReadyQuest x.now scratch.old }
-    ensures kept { IfOk result (IsVisitSearch x.now) }
-    ensures explored { IfOk result (λ v. IsAllFollowed x.now v.list.items) }
-    ensures scratch { scratch.new ≡ scratch.old }
+    ensures { IfOk result (IsDoneSearch x.now scratch.old scratch.new) }
 {
     let mut visits = started(x, scratch)?;
     explore(x, scratch, &mut visits)?;
@@ -49,11 +45,8 @@ fn fewest_at(
     visits: &Visits,
     scratch: &mut Scratch,
 ) -> Result<Option<Fewest>, AllocError>
-    requires ready { IsReadyQuest x.now scratch.old }
-    requires few { length x.now.initial.now < 2 ^ 32 }
-    requires goal { IsGoalOver x.now.walker.ordered.program.now target.now.goal }
-    requires kept { IsVisitSearch x.now visits.now }
-    requires explored { IsAllFollowed x.now visits.now.list.items }
+    requires ready { CanFind x.now target.now scratch.old }
+    requires done { IsDoneSearch x.now scratch.old scratch.old visits.now }
     ensures answer { IfOk result (AnswersAt (question_in x.now target.now) x.now.walker.cells) }
     ensures scratch { scratch.new ≡ scratch.old }
 {
@@ -74,15 +67,12 @@ fn find_rest(
     scratch: &mut Scratch,
     found: &mut Vec<Option<Fewest>>,
 ) -> Result<(), AllocError>
-    requires ready { IsReadyQuest x.now scratch.old }
-    requires few { length x.now.initial.now < 2 ^ 32 }
-    requires goals { All (λ (t : Target). IsGoalOver x.now.walker.ordered.program.now t.goal) targets.now }
-    requires kept { IsVisitSearch x.now visits.now }
-    requires explored { IsAllFollowed x.now visits.now.list.items }
+    requires ready { All (λ (t : Target). CanFind x.now t scratch.old) targets.now }
+    requires explored { IsDoneSearch x.now scratch.old scratch.old visits.now }
     requires found { AreAnswers (question_in x.now) targets.now x.now.walker.cells found.old.items }
     ensures found { OnOk result (AreAnswers (question_in x.now) targets.now (x.now.walker.cells + 1)
         found.new.items) }
-    ensures scratch { scratch.new ≡ scratch.old }
+    ensures same { scratch.new ≡ scratch.old }
 {
     for place in 0..targets.len() {
         if found[place].is_none() {
@@ -114,11 +104,8 @@ pub fn witnesses_of_fewest_cells(
     x: &Request<'_>,
     targets: &[Target<'_>],
 ) -> Result<Findings, Unanswered>
-    requires valid { IsValid (program_of x.now.program.now) }
-    requires initial { All (IsOver x.now.program.now.vocab) x.now.initial.now }
-    requires few { length x.now.initial.now < 2 ^ 32 }
+    requires request { IsRequest x.now }
     requires goals { All (λ (t : Target). IsGoalOver x.now.program.now t.goal) targets.now }
-    requires cells { x.now.cells < 256 }
     ensures answers { IfOk result (λ f. AreAnswers (question_of x.now) targets.now f.through f.found) }
     ensures through { IfOk result (λ f. f.through ≤ x.now.cells + 1) }
     ensures settled { IfOk result (λ f. AreAllSettled (program_of x.now.program.now).actions) }

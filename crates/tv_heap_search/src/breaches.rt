@@ -5,13 +5,11 @@ ghost use Rattle.tv_heap_search.specs.Breaches.{AddsBreaches, AreKept, AreKeptBe
 ghost use Rattle.tv_heap_search.specs.Breaches.{IsBrokenBy, IsReadyToTell, IsTold, IsToldAlong, IsToldAt};
 ghost use Rattle.tv_heap_search.specs.Breaches.{extended, leg_of, runs_in, runs_of};
 ghost use Rattle.tv_heap_search.specs.Many.{IsCauseOfNothing};
-ghost use Rattle.tv_heap_search.specs.Levels.{IsAllFollowed};
-ghost use Rattle.tv_heap_search.specs.Quests.{IsReadyQuest};
+ghost use Rattle.tv_heap_search.specs.Levels.{IsDoneSearch};
+ghost use Rattle.tv_heap_search.specs.Quests.{IsReadyQuest, IsRequest};
 ghost use Rattle.tv_heap_search.specs.Visited.{IsVisitSearch, LeavesFrom};
 ghost use Rattle.tv_heap_steps.specs.Settled.{AreAllSettled};
 ghost use Rattle.tv_model.specs.Program.{program_of};
-ghost use Rattle.tv_model.specs.Valid.{IsValid};
-ghost use Rattle.tv_structure_form.specs.StructureForm.{IsOver};
 
 use crate::all::explored;
 use crate::error::{SearchError, Unanswered};
@@ -213,8 +211,7 @@ fn tell_all(
 ) -> Result<(), AllocError>
     requires ready { IsReadyQuest x.now scratch.old }
     requires few { length x.now.initial.now < 2 ^ 32 }
-    requires kept { IsVisitSearch x.now visits.now }
-    requires explored { IsAllFollowed x.now visits.now.list.items }
+    requires done { IsDoneSearch x.now scratch.old scratch.old visits.now }
     ensures adds { OnOk result (AddsBreaches (runs_in x.now) list.old.items list.new.items) }
     ensures kept { OnOk result (AreKept (runs_in x.now) list.new.items) }
     ensures scratch { scratch.new ≡ scratch.old }
@@ -233,10 +230,7 @@ fn tell_all(
 /// # Errors
 /// `Free` exactly where an action leaves a predicate free. Or memory ran out.
 pub fn broken_premises(x: &Request<'_>) -> Result<Breaches, Unanswered>
-    requires valid { IsValid (program_of x.now.program.now) }
-    requires initial { All (IsOver x.now.program.now.vocab) x.now.initial.now }
-    requires few { length x.now.initial.now < 2 ^ 32 }
-    requires cells { x.now.cells < 256 }
+    requires request { IsRequest x.now }
     ensures each { IfOk result (λ b. All (IsBreach (runs_of x.now x.now.cells)) b.list) }
     ensures kept { IfOk result (λ b. AreKeptBelow (runs_of x.now) b.through b.list) }
     ensures through { IfOk result (λ b. b.through ≤ x.now.cells + 1) }

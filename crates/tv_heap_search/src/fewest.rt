@@ -1,12 +1,10 @@
 //! A witness of as few cells as any.
 
-ghost use Rattle.std.specs.Prelude.{◌≡◌, ◌<◌, ◌^◌, All, IfErr, IfOk, length};
+ghost use Rattle.std.specs.Prelude.{◌≡◌, IfErr, IfOk};
 ghost use Rattle.tv_heap_search.specs.Answers.{AnswersFewest, IsCauseUnanswered};
-ghost use Rattle.tv_heap_search.specs.Quests.{IsGoalOver, question_of};
+ghost use Rattle.tv_heap_search.specs.Quests.{IsGoalOver, IsRequest, question_of};
 ghost use Rattle.tv_heap_steps.specs.Settled.{AreAllSettled};
 ghost use Rattle.tv_model.specs.Program.{program_of};
-ghost use Rattle.tv_model.specs.Valid.{IsValid};
-ghost use Rattle.tv_structure_form.specs.StructureForm.{IsOver};
 
 use crate::error::{SearchError, Unanswered};
 use crate::quest::{Request, Target};
@@ -45,11 +43,8 @@ pub fn witness_of_fewest_cells(
     x: &Request<'_>,
     target: &Target<'_>,
 ) -> Result<Option<Fewest>, Unanswered>
-    requires valid { IsValid (program_of x.now.program.now) }
-    requires initial { All (IsOver x.now.program.now.vocab) x.now.initial.now }
-    requires few { length x.now.initial.now < 2 ^ 32 }
+    requires request { IsRequest x.now }
     requires goal { IsGoalOver x.now.program.now target.now.goal }
-    requires cells { x.now.cells < 256 }
     ensures answer { IfOk result (AnswersFewest (question_of x.now target.now)) }
     ensures settled { IfOk result (λ found. AreAllSettled (program_of x.now.program.now).actions) }
     ensures cause { IfErr result (IsCauseUnanswered (question_of x.now target.now)) }

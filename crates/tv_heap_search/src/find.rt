@@ -1,10 +1,10 @@
 //! What was met is followed level by level: what one level has is met in as many steps.
 
 ghost use Rattle.std.specs.Prelude.{◌≡◌, IfOk, OnOk};
-ghost use Rattle.tv_heap_search.specs.Answers.{AnswersTarget};
-ghost use Rattle.tv_heap_search.specs.Levels.{IsAllFollowed, IsHeapLevel};
-ghost use Rattle.tv_heap_search.specs.Quests.{IsGoalOver, IsReadyQuest};
-ghost use Rattle.tv_heap_search.specs.Visited.{IsVisitSearch};
+ghost use Rattle.tv_heap_search.specs.Answers.{AnswersTarget, HasSearched};
+ghost use Rattle.tv_heap_search.specs.Levels.{IsDoneSearch, IsHeapLevel};
+ghost use Rattle.tv_heap_search.specs.Quests.{CanFind, IsGoalOver};
+ghost use Rattle.tv_heap_search.specs.Visited.{IsUnderWaySearch};
 
 use crate::error::SearchError;
 use crate::follow::follow_level;
@@ -21,12 +21,9 @@ pub(crate) fn explore(
     scratch: &mut Scratch,
     visits: &mut Visits,
 ) -> Result<(), SearchError>
-    requires ready { IsReadyQuest x.now scratch.old }
-    requires kept { IsVisitSearch x.now visits.old }
+    requires under_way { IsUnderWaySearch x.now scratch.old visits.old }
     requires level { IsHeapLevel x.now visits.old.list.items 0 0 }
-    ensures kept { OnOk result (IsVisitSearch x.now visits.new) }
-    ensures explored { OnOk result (IsAllFollowed x.now visits.new.list.items) }
-    ensures scratch { scratch.new ≡ scratch.old }
+    ensures { OnOk result (IsDoneSearch x.now scratch.old scratch.new visits.new) }
 {
     let mut from = 0;
     while from < visits.list.len() {
@@ -37,7 +34,7 @@ pub(crate) fn explore(
     Ok(())
 }
 
-/// The place of a goal in what was wholly explored, met in as few steps as any; none where there is no
+/// The place of a goal in what was wholly followed, met in as few steps as any; none where there is no
 /// witness.
 pub(crate) fn nearest(
     x: &Quest<'_>,
@@ -45,10 +42,8 @@ pub(crate) fn nearest(
     scratch: &mut Scratch,
     visits: &Visits,
 ) -> Result<Option<usize>, AllocError>
-    requires ready { IsReadyQuest x.now scratch.old }
-    requires goal { IsGoalOver x.now.walker.ordered.program.now target.now.goal }
-    requires kept { IsVisitSearch x.now visits.now }
-    requires explored { IsAllFollowed x.now visits.now.list.items }
+    requires ready { CanFind x.now target.now scratch.old }
+    requires done { IsDoneSearch x.now scratch.old scratch.old visits.now }
     ensures answer { IfOk result (AnswersTarget x.now target.now visits.now.list.items) }
     ensures scratch { scratch.new ≡ scratch.old }
 {
@@ -65,13 +60,10 @@ pub(crate) fn find(
     scratch: &mut Scratch,
     visits: &mut Visits,
 ) -> Result<Option<usize>, SearchError>
-    requires ready { IsReadyQuest x.now scratch.old }
     requires goal { IsGoalOver x.now.walker.ordered.program.now target.now.goal }
-    requires kept { IsVisitSearch x.now visits.old }
+    requires under_way { IsUnderWaySearch x.now scratch.old visits.old }
     requires level { IsHeapLevel x.now visits.old.list.items 0 0 }
-    ensures kept { OnOk result (IsVisitSearch x.now visits.new) }
-    ensures answer { IfOk result (AnswersTarget x.now target.now visits.new.list.items) }
-    ensures scratch { scratch.new ≡ scratch.old }
+    ensures { IfOk result (HasSearched x.now target.now scratch.old scratch.new visits.new) }
 {
     searches_end();
     witnesses_are_long();

@@ -1,9 +1,11 @@
 //! What was met is followed.
 
-ghost use Rattle.std.specs.Prelude.{◌≡◌, ◌<◌, ◌≤◌, All, OnOk, length};
-ghost use Rattle.tv_heap_search.specs.Quests.{IsReadyQuest};
-ghost use Rattle.tv_heap_search.specs.Visited.{AreLedMet, MeetsMore, IsVisitFrom, IsVisitFromBelow, IsPlaceFollowedAlong};
-ghost use Rattle.tv_heap_search.specs.Visited.{ArePlacesFollowed, IsPlaceFollowed, IsLedMet, IsVisitSearch, LeavesFrom};
+ghost use Rattle.std.specs.Prelude.{◌<◌, ◌≤◌, All, OnOk, length};
+ghost use Rattle.tv_heap_search.specs.Visited.{AreLedMet, ArePlacesFollowed, IsPlaceFollowed};
+ghost use Rattle.tv_heap_search.specs.Visited.{IsPlaceFollowedAlong};
+ghost use Rattle.tv_heap_search.specs.Visited.{IsUnderWaySearch, IsVisitFrom, IsVisitFromBelow};
+ghost use Rattle.tv_heap_search.specs.Visited.{IsVisitSearch};
+ghost use Rattle.tv_heap_search.specs.Visited.{IsLedMet, LeavesFrom, SearchesOn};
 ghost use Rattle.tv_heap_steps.specs.Steps.{program_in};
 ghost use Rattle.tv_model.specs.Valid.{IsValid};
 
@@ -64,14 +66,12 @@ fn follow_along(
     scratch: &mut Scratch,
     visits: &mut Visits,
 ) -> Result<(), SearchError>
-    requires ready { IsReadyQuest x.now scratch.old }
+    requires under_way { IsUnderWaySearch x.now scratch.old visits.old }
     requires place { place < length visits.old.list.items }
     requires edge { edge < length x.now.walker.ordered.program.now.edges }
-    requires kept { IsVisitSearch x.now visits.old }
-    ensures kept { OnOk result (IsVisitSearch x.now visits.new) }
-    ensures grows { OnOk result (MeetsMore (IsVisitFrom place) visits.old visits.new) }
+    ensures on { OnOk result
+        (SearchesOn (IsVisitFrom place) x.now scratch.old scratch.new visits.old visits.new) }
     ensures followed { OnOk result (IsPlaceFollowedAlong x.now visits.new.list.items place edge) }
-    ensures scratch { scratch.new ≡ scratch.old }
 {
     let visit = &visits.list[place];
     if x.walker.ordered.program.edges.as_slice()[edge as usize].from != visit.node {
@@ -89,13 +89,11 @@ fn follow(
     scratch: &mut Scratch,
     visits: &mut Visits,
 ) -> Result<(), SearchError>
-    requires ready { IsReadyQuest x.now scratch.old }
+    requires under_way { IsUnderWaySearch x.now scratch.old visits.old }
     requires place { place < length visits.old.list.items }
-    requires kept { IsVisitSearch x.now visits.old }
-    ensures kept { OnOk result (IsVisitSearch x.now visits.new) }
-    ensures grows { OnOk result (MeetsMore (IsVisitFrom place) visits.old visits.new) }
+    ensures on { OnOk result
+        (SearchesOn (IsVisitFrom place) x.now scratch.old scratch.new visits.old visits.new) }
     ensures followed { OnOk result (IsPlaceFollowed x.now visits.new.list.items place) }
-    ensures scratch { scratch.new ≡ scratch.old }
 {
     for edge in 0..x.walker.ordered.program.edges.len() as u32 {
         follow_along(x, place, edge, scratch, visits)?;
@@ -111,13 +109,11 @@ pub(crate) fn follow_level(
     scratch: &mut Scratch,
     visits: &mut Visits,
 ) -> Result<(), SearchError>
-    requires ready { IsReadyQuest x.now scratch.old }
+    requires under_way { IsUnderWaySearch x.now scratch.old visits.old }
     requires to { to ≤ length visits.old.list.items }
-    requires kept { IsVisitSearch x.now visits.old }
-    ensures kept { OnOk result (IsVisitSearch x.now visits.new) }
-    ensures grows { OnOk result (MeetsMore (IsVisitFromBelow to) visits.old visits.new) }
+    ensures on { OnOk result
+        (SearchesOn (IsVisitFromBelow to) x.now scratch.old scratch.new visits.old visits.new) }
     ensures followed { OnOk result (ArePlacesFollowed x.now visits.new.list.items from to) }
-    ensures scratch { scratch.new ≡ scratch.old }
 {
     for place in from..to {
         follow(x, place, scratch, visits)?;

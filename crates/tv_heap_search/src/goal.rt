@@ -3,9 +3,9 @@
 ghost use Rattle.std.specs.Prelude.{◌≡◌, ◌<◌, ◌↔◌, IfOk, IsTrue};
 ghost use Rattle.tv_eval.specs.AssignmentForm.{assignment_of};
 ghost use Rattle.tv_eval.specs.Formulas.{AreAssigned};
-ghost use Rattle.tv_heap_search.specs.Goals.{CanAskGoal, CanTellIn, IsVisitAimedAt, IsFirstGoalFrom, AreAllHeaps};
+ghost use Rattle.tv_heap_search.specs.Goals.{CanAskGoal, CanTellIn, IsVisitAimedAt, IsFirstGoalFrom};
+ghost use Rattle.tv_heap_search.specs.Goals.{AreAllHeaps};
 ghost use Rattle.tv_heap_search.specs.Quests.{IsGoalOver, IsReadyQuest, aim_of_goal};
-ghost use Rattle.tv_heap_steps.specs.Steps.{IsSmallHeap};
 ghost use Rattle.tv_model.specs.Form.{form_of};
 ghost use Rattle.tv_model.specs.Rules.{blank};
 ghost use Rattle.tv_model.specs.Truth.{Truth};
@@ -21,8 +21,8 @@ use tv_model::Formula;
 use tv_struct::Structure;
 use tv_two_valued::holds;
 
-/// Whether the condition is true under the assignment in the heap that `s` stands for. The scratch is given back
-/// as it was.
+/// Whether the condition is true under the assignment in the heap that `s` stands for. The scratch is given
+/// back as it was.
 fn is_true(cond: &Formula, s: &Structure, a: &Assignment, scratch: &mut Scratch) -> bool
     requires can { CanTellIn s.now scratch.old (form_of cond.now) }
     requires assigned { AreAssigned s.now.size a.now (form_of cond.now) }
@@ -64,21 +64,19 @@ fn is_aimed_at(
 
 /// Whether what was met is as it is asked for. The scratch is given back as it was.
 fn is_goal(
-    x: &Quest<'_>,
+    alloc: Global,
     target: &Target<'_>,
     visit: &Visit,
     scratch: &mut Scratch,
 ) -> Result<bool, AllocError>
-    requires ready { IsReadyQuest x.now scratch.old }
-    requires goal { IsGoalOver x.now.walker.ordered.program.now target.now.goal }
-    requires heap { IsSmallHeap x.now.walker visit.now.heap }
+    requires can { CanAskGoal target.now.goal visit.now.heap scratch.old }
     ensures goal { IfOk result (λ is. IsTrue is ↔ IsVisitAimedAt target.now visit.now) }
-    ensures scratch { scratch.new ≡ scratch.old }
+    ensures same { scratch.new ≡ scratch.old }
 {
     if visit.node != target.node {
         return Ok(false);
     }
-    is_aimed_at(x.walker.ordered.alloc, &target.goal, &visit.heap, scratch)
+    is_aimed_at(alloc, &target.goal, &visit.heap, scratch)
 }
 
 /// The first place from `from` on at which a heap was met as it is asked for, if there is one. The scratch is
@@ -91,13 +89,13 @@ pub(crate) fn first_goal(
     scratch: &mut Scratch,
 ) -> Result<Option<usize>, AllocError>
     requires ready { IsReadyQuest x.now scratch.old }
-    requires goal { IsGoalOver x.now.walker.ordered.program.now target.now.goal }
+    requires over { IsGoalOver x.now.walker.ordered.program.now target.now.goal }
     requires heaps { AreAllHeaps x.now.walker list.now }
     ensures first { IfOk result (IsFirstGoalFrom target.now list.now from) }
-    ensures scratch { scratch.new ≡ scratch.old }
+    ensures room { scratch.new ≡ scratch.old }
 {
     for place in from..list.len() {
-        if is_goal(x, target, &list[place], scratch)? {
+        if is_goal(x.walker.ordered.alloc, target, &list[place], scratch)? {
             return Ok(Some(place));
         }
     }

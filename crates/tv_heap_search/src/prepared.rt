@@ -1,6 +1,6 @@
 //! What a search needs of a program, made once.
 
-ghost use Rattle.std.specs.Prelude.{◌≡◌, IfOk};
+ghost use Rattle.std.specs.Prelude.{IfOk};
 ghost use Rattle.tv_eval.specs.ScratchForm.{IsMadeFor};
 ghost use Rattle.tv_heap_search.specs.Prepared.{IsPrepared, IsQuestBy};
 ghost use Rattle.tv_model.specs.Program.{program_of};
@@ -29,7 +29,7 @@ const MAX_INDIVIDUALS: u32 = 256;
 
 /// What a search needs of the program.
 pub(crate) fn prepare(x: &Request<'_>) -> Result<Prepared, AllocError>
-    requires valid { IsValid (program_of x.now.program.now) }
+    requires { IsValid (program_of x.now.program.now) }
     ensures { IfOk result (IsPrepared x.now.program.now) }
 {
     let closed = close_rules(x.alloc, x.program)?;
@@ -44,7 +44,7 @@ pub(crate) fn prepare(x: &Request<'_>) -> Result<Prepared, AllocError>
 
 /// Room to evaluate the formulas of the program.
 pub(crate) fn scratch_for(x: &Request<'_>) -> Result<Scratch, AllocError>
-    requires valid { IsValid (program_of x.now.program.now) }
+    requires program { IsValid (program_of x.now.program.now) }
     ensures { IfOk result (IsMadeFor (program_of x.now.program.now) 256) }
 {
     Scratch::new(x.alloc, x.program, MAX_INDIVIDUALS)

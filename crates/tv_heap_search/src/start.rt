@@ -3,7 +3,8 @@
 ghost use Rattle.std.specs.Prelude.{ℕ, ◌≡◌, All, Contains, IfOk, OnOk, slice_get, Some};
 ghost use Rattle.tv_heaps.specs.Heaps.{AreHeapsIn, IsHeapIn};
 ghost use Rattle.tv_heap_search.specs.Quests.{IsReadyQuest};
-ghost use Rattle.tv_heap_search.specs.Visited.{AreFirstMet, AreMetOf, MeetsMore, IsVisitSearch, IsStartVisit};
+ghost use Rattle.tv_heap_search.specs.Visited.{AreFirstMet, AreMetOf, IsStartVisit, IsUnderWaySearch};
+ghost use Rattle.tv_heap_search.specs.Visited.{IsVisitSearch, SearchesOn};
 ghost use Rattle.tv_heap_steps.specs.Steps.{program_in};
 ghost use Rattle.tv_model.specs.Valid.{IsValid};
 ghost use Rattle.tv_structure_form.specs.StructureForm.{StructureForm};
@@ -66,13 +67,10 @@ fn start(
     scratch: &mut Scratch,
     visits: &mut Visits,
 ) -> Result<(), SearchError>
-    requires ready { IsReadyQuest x.now scratch.old }
+    requires under_way { IsUnderWaySearch x.now scratch.old visits.old }
     requires initial { Contains x.now.initial.now s.now }
-    requires kept { IsVisitSearch x.now visits.old }
-    ensures kept { OnOk result (IsVisitSearch x.now visits.new) }
-    ensures grows { OnOk result (MeetsMore IsStartVisit visits.old visits.new) }
+    ensures on { OnOk result (SearchesOn IsStartVisit x.now scratch.old scratch.new visits.old visits.new) }
     ensures met { OnOk result (AreMetOf x.now visits.new.list.items s.now) }
-    ensures scratch { scratch.new ≡ scratch.old }
 {
     let heaps = heaps_of(x, s, scratch)?;
     meet_starts(x, s, heaps, visits)?;
@@ -85,13 +83,10 @@ pub(crate) fn start_all(
     scratch: &mut Scratch,
     visits: &mut Visits,
 ) -> Result<(), SearchError>
-    requires ready { IsReadyQuest x.now scratch.old }
-    requires kept { IsVisitSearch x.now visits.old }
-    ensures kept { OnOk result (IsVisitSearch x.now visits.new) }
-    ensures grows { OnOk result (MeetsMore IsStartVisit visits.old visits.new) }
+    requires under_way { IsUnderWaySearch x.now scratch.old visits.old }
+    ensures on { OnOk result (SearchesOn IsStartVisit x.now scratch.old scratch.new visits.old visits.new) }
     ensures met { OnOk result ((place : ℕ) → (s : StructureForm) → slice_get x.now.initial.now place ≡ Some s
         → AreMetOf x.now visits.new.list.items s) }
-    ensures scratch { scratch.new ≡ scratch.old }
 {
     for s in x.initial.as_slice() {
         start(x, s, scratch, visits)?;

@@ -54,7 +54,8 @@ impl Visits {
         requires known { AreSeenMet self.old.seen self.old.list.items }
         requires within { length self.old.list.items ≤ most }
         ensures grows { OnOk result (MeetsMore (λ v. v ≡ visit) self.old self.new) }
-        ensures has { OnOk result (HasMet (visit_places self.new.list.items) visit.node (heap_of visit.heap)) }
+        ensures has { OnOk result
+            (HasMet (visit_places self.new.list.items) visit.node (heap_of visit.heap)) }
         ensures known { OnOk result (AreSeenMet self.new.seen self.new.list.items) }
         ensures within { OnOk result (length self.new.list.items ≤ most) }
     {

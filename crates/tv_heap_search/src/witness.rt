@@ -1,16 +1,16 @@
 //! A shortest witness.
 
-ghost use Rattle.std.specs.Prelude.{◌≡◌, ◌<◌, ◌^◌, All, IfOk, OnOk, Some, length};
+ghost use Rattle.std.specs.Prelude.{◌≡◌, ◌<◌, ◌^◌, All, IfOk, Some, length};
 ghost use Rattle.tv_heap_search.specs.Answers.{AnswersQuestion, AnswersTarget, IsNumberAbove};
 ghost use Rattle.tv_heap_search.specs.Answers.{IsShortestWitness};
-ghost use Rattle.tv_heap_search.specs.Levels.{IsHeapLevel};
-ghost use Rattle.tv_heap_search.specs.Quests.{IsGoalOver, IsReadyQuest, question_in, question_of};
-ghost use Rattle.tv_heap_search.specs.Visited.{IsVisitSearch};
+ghost use Rattle.tv_heap_search.specs.Levels.{IsBegun};
+ghost use Rattle.tv_heap_search.specs.Quests.{CanFind, IsGoalOver, IsReadyQuest, IsRequest, question_in};
+ghost use Rattle.tv_heap_search.specs.Quests.{question_of};
+ghost use Rattle.tv_heap_search.specs.Traces.{CanTrace};
 ghost use Rattle.tv_heap_steps.specs.Settled.{AreAllSettled};
 ghost use Rattle.tv_model.specs.Program.{program_of};
-ghost use Rattle.tv_model.specs.Valid.{IsValid};
 ghost use Rattle.tv_step_laws.specs.Sound.{IsHeapOfSome};
-ghost use Rattle.tv_structure_form.specs.StructureForm.{IsOver, IsStructure, arities_of};
+ghost use Rattle.tv_structure_form.specs.StructureForm.{IsStructure, arities_of};
 ghost use Rattle.tv_two_valued.specs.TwoValued.{IsTwoValued, heap_of};
 
 use crate::error::SearchError;
@@ -51,9 +51,7 @@ pub(crate) fn number_above(alloc: Global, s: &Structure, structures: &[Structure
 /// What was met of start heaps, which is all that is met in no step.
 pub(crate) fn started(x: &Quest<'_>, scratch: &mut Scratch) -> Result<Visits, SearchError>
     requires ready { IsReadyQuest x.now scratch.old }
-    ensures kept { IfOk result (IsVisitSearch x.now) }
-    ensures level { IfOk result (λ v. IsHeapLevel x.now v.list.items 0 0) }
-    ensures scratch { scratch.new ≡ scratch.old }
+    ensures { IfOk result (IsBegun x.now scratch.old scratch.new) }
 {
     let alloc = x.walker.ordered.alloc;
     let mut visits = Visits::new(alloc, x.walker.ordered.program.nodes.len() as u32)?;
@@ -68,11 +66,7 @@ pub(crate) fn witness_to(
     visits: &Visits,
     place: usize,
 ) -> Result<Witness, AllocError>
-    requires initial { All (IsOver x.now.walker.ordered.program.now.vocab) x.now.initial.now }
-    requires few { length x.now.initial.now < 2 ^ 32 }
-    requires valid { IsValid (program_of x.now.walker.ordered.program.now) }
-    requires goal { IsGoalOver x.now.walker.ordered.program.now target.now.goal }
-    requires kept { IsVisitSearch x.now visits.now }
+    requires ready { CanTrace x.now target.now visits.now }
     requires place { AnswersTarget x.now target.now visits.now.list.items (Some place) }
     ensures shortest { IfOk result (IsShortestWitness (question_in x.now target.now)) }
 {
@@ -89,11 +83,8 @@ fn search(
     target: &Target<'_>,
     scratch: &mut Scratch,
 ) -> Result<Option<Witness>, SearchError>
-    requires ready { IsReadyQuest x.now scratch.old }
-    requires goal { IsGoalOver x.now.walker.ordered.program.now target.now.goal }
-    requires few { length x.now.initial.now < 2 ^ 32 }
-    ensures answer { IfOk result (AnswersQuestion (question_in x.now target.now)) }
-    ensures scratch { scratch.new ≡ scratch.old }
+    requires ready { CanFind x.now target.now scratch.old }
+    ensures { IfOk result (AnswersQuestion (question_in x.now target.now)) }
 {
     let mut visits = started(x, scratch)?;
     match find(x, target, scratch, &mut visits)? {
@@ -112,12 +103,9 @@ pub fn shortest_witness(
     x: &Request<'_>,
     target: &Target<'_>,
 ) -> Result<Option<Witness>, SearchError>
-    requires valid { IsValid (program_of x.now.program.now) }
+    requires request { IsRequest x.now }
     requires settled { AreAllSettled (program_of x.now.program.now).actions }
-    requires initial { All (IsOver x.now.program.now.vocab) x.now.initial.now }
-    requires few { length x.now.initial.now < 2 ^ 32 }
     requires goal { IsGoalOver x.now.program.now target.now.goal }
-    requires cells { x.now.cells < 256 }
     ensures answer { IfOk result (AnswersQuestion (question_of x.now target.now)) }
 {
     let prepared = prepare(x)?;

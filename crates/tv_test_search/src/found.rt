@@ -53,7 +53,8 @@ const WAY_ROWS: [Row; 6] = [
     (Mode::Given, 5, "%n = {u, w, z} %p = { a = {u} }", 2, "none"),
 ];
 
-/// `y` goes on from the first cell of a list of two or more, and is null after two steps where there are no more.
+/// `y` goes on from the first cell of a list of two or more, and is null after two steps where there are no
+/// more.
 const WALK: Asked = Asked {
     program: "%p x(v) unique box %p y(v) unique box %p n(v, w) function %i t[n](v, w) = n*(v, w) transitive \
         reflexive %i r[n,x](v) = E(w) x(w) & t[n](w, v) %i r[n,y](v) = E(w) y(w) & t[n](w, v) %r t[n](v, w) ==> \

@@ -1,5 +1,5 @@
 use Rattle.std.proofs.Common.{arith}
-use Rattle.tv_heap_search.proofs.Asking.{none_between, none_next}
+use Rattle.tv_heap_search.proofs.Asking.{can_ask, none_between, none_next}
 use Rattle.tv_heap_search.proofs.goal.first_goal.Goals as goal
 
 pub loop-place-init : goal.loop-place-init
