@@ -14,6 +14,7 @@ use Rattle.tv_model.specs.declared.program.Mode.{Mode}
 use Rattle.tv_model.specs.declared.program.Mode.TheVariants.{Given, Recompute}
 use Rattle.tv_model.specs.Heap.{Heap}
 use Rattle.tv_model.specs.Program.{ActionForm, ProgramForm}
+use Rattle.tv_model.specs.Run.{BringsFrom}
 use Rattle.tv_model.specs.Valid.{IsValid}
 use Rattle.tv_model.proofs.Lists.{slice_get-contains}
 use Rattle.tv_model.proofs.Parts.{arities-same}
@@ -24,6 +25,7 @@ use Rattle.tv_replay_laws.specs.Stuck.{Standing}
 use Rattle.tv_replay_laws.specs.declared.state.ListedCover.{ListedCover}
 use Rattle.tv_replay_laws.specs.declared.state.State.{State}
 use Rattle.tv_replay_step.specs.Stepped.{IsMoved}
+use Rattle.tv_start_laws.specs.Copies.{IsHeapCopy}
 use Rattle.tv_structure_form.specs.StructureForm.{StructureForm}
 use Rattle.tv_trace.specs.declared.trace.Move.{Move}
 use Rattle.tv_two_valued.specs.TwoValued.{heap_of}
@@ -31,7 +33,7 @@ use Rattle.tv_witness_laws.specs.Laws.{SearchesEnd}
 use Rattle.tv_witness_laws.specs.Premises.{KeepsPremises, PremisesHold}
 use Rattle.tv_witness_laws.specs.Replays.{IsAcceptedReplay, IsSmallState, last_shown}
 use Rattle.tv_witness_laws.specs.Search.{IsExhaustive, Place}
-use Rattle.tv_witness_laws.specs.Witness.{Question}
+use Rattle.tv_witness_laws.specs.Witness.{Question, last_heap}
 use Rattle.tv_witness_laws.proofs.Ending.{brings-last}
 use Rattle.tv_heap_steps.specs.Steps.{AreAllSteps, IsFairMove, IsSmallStep, program_in}
 use Rattle.tv_heap_steps.specs.declared.along.Led.{Led}

@@ -83,7 +83,10 @@ fn step_by(
     let node = ordered.program.edges.as_slice()[edge as usize].from;
     let step = move_by(ordered.alloc, edge, chosen)?;
     match next(ordered, node, s, &step, scratch) {
-        Ok(moved) => judged(walker, step, moved, scratch),
+        Ok(moved) => {
+            let found = judged(walker, step, moved, scratch)?;
+            Ok(found)
+        }
         Err(Halt::Stuck(_)) => Ok(None),
         Err(Halt::Memory) => Err(AllocError),
     }
