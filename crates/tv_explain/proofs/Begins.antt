@@ -18,7 +18,7 @@ use Rattle.tv_explain.specs.declared.fault.Ending.{Ending}
 use Rattle.tv_explain.specs.declared.fault.Fault.{Fault}
 use Rattle.tv_explain.specs.declared.fault.Fault.TheVariants.{Usage, FileFault, Structures, TooManySplits}
 use Rattle.tv_explain.specs.declared.fault.Fault.TheVariants.{TooManyIndividuals, NotThere, NotWritten}
-use Rattle.tv_explain.specs.declared.fault.Fault.TheVariants.{ReadFault, Memory}
+use Rattle.tv_explain.specs.declared.fault.Fault.TheVariants.{Heaps, ReadFault, Memory}
 use Rattle.tv_explain_words.specs.Words.{CommandForm, Spells}
 
 -- said of the command, said of the words that spell it
@@ -75,6 +75,7 @@ answered_begins (Err TooManySplits) ending or er oo on eo en P (same, inl (e, ta
 answered_begins (Err TooManyIndividuals) ending or er oo on eo en P (same, inl (e, taken)) h = rw e tt
 answered_begins (Err (NotThere what)) ending or er oo on eo en P (same, inl (e, taken)) h = rw e tt
 answered_begins (Err (NotWritten why)) ending or er oo on eo en P (same, inl (e, taken)) h = rw e tt
+answered_begins (Err (Heaps passed)) ending or er oo on eo en P (same, inl (e, taken)) h = rw e tt
 answered_begins (Err ReadFault) ending or er oo on eo en P (same, inl (e, taken)) h = rw e tt
 answered_begins (Err Memory) ending or er oo on eo en P (same, inl (e, taken)) h = rw e tt
 answered_begins (Err met) ending or er oo on eo en P (same, inr (e, its, taken)) h = rw e tt

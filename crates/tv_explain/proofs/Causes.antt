@@ -44,7 +44,7 @@ use Rattle.tv_explain.specs.declared.fault.Answer.{Answer}
 use Rattle.tv_explain.specs.declared.fault.Fault.{Fault}
 use Rattle.tv_explain.specs.declared.fault.Fault.TheVariants.{Usage, FileFault, Structures, TooManySplits}
 use Rattle.tv_explain.specs.declared.fault.Fault.TheVariants.{TooManyIndividuals, NotThere, NotWritten}
-use Rattle.tv_explain.specs.declared.fault.Fault.TheVariants.{ReadFault, Memory}
+use Rattle.tv_explain.specs.declared.fault.Fault.TheVariants.{Heaps, ReadFault, Memory}
 use Rattle.tv_explain.specs.declared.inputs.Drawn.{Drawn}
 use Rattle.tv_explain.specs.declared.inputs.Inputs.{Inputs}
 use Rattle.tv_explain_words.specs.Words.{AnalyzedForm, CommandForm, Shows, TellsLosses, TellsMessage}
@@ -61,6 +61,7 @@ holds_unless (Err TooManySplits) P h = h
 holds_unless (Err TooManyIndividuals) P h = h
 holds_unless (Err (NotThere what)) P h = h
 holds_unless (Err (NotWritten why)) P h = h
+holds_unless (Err (Heaps passed)) P h = h
 holds_unless (Err ReadFault) P h = tt
 holds_unless (Err Memory) P h = h
 
@@ -193,6 +194,7 @@ module _ (told : Option Held) where
   inputs_cause command of rose steady TooManyIndividuals program initial lacks h = absurd h
   inputs_cause command of rose steady (NotThere what) program initial lacks h = absurd h
   inputs_cause command of rose steady (NotWritten why) program initial lacks h = absurd h
+  inputs_cause command of rose steady (Heaps passed) program initial lacks h = absurd h
 
   -- what stops the work behind the files stops the command
   pub stopped_cause : (command : CommandForm) (of : AnalyzedForm) (inputs : Inputs) (rose steady : Type 0)
@@ -210,6 +212,8 @@ module _ (told : Option Held) where
   stopped_cause command of inputs rose steady (NotThere what) mean h =
       mean (λ o i. IsStopped command o i (NotThere what)) h
   stopped_cause command of inputs rose steady (NotWritten why) mean h = absurd h
+  stopped_cause command of inputs rose steady (Heaps passed) mean h =
+      mean (λ o i. IsStopped command o i (Heaps passed)) h
   stopped_cause command of inputs rose steady ReadFault mean h = absurd h
   stopped_cause command of inputs rose steady Memory mean h = tt
 
@@ -231,6 +235,7 @@ module _ (told : Option Held) where
   spelled_cause words command rose steady (Err TooManyIndividuals) spells h = (command, spells, h)
   spelled_cause words command rose steady (Err (NotThere what)) spells h = (command, spells, h)
   spelled_cause words command rose steady (Err (NotWritten why)) spells h = (command, spells, h)
+  spelled_cause words command rose steady (Err (Heaps passed)) spells h = (command, spells, h)
   spelled_cause words command rose steady (Err ReadFault) spells h = (command, spells, h)
   spelled_cause words command rose steady (Err Memory) spells h = tt
 
@@ -275,6 +280,7 @@ steps_stopped asked of edge inputs (FileFault r k) h = absurd h
 steps_stopped asked of edge inputs (Structures max) h = absurd h
 steps_stopped asked of edge inputs (NotThere what) h = absurd h
 steps_stopped asked of edge inputs (NotWritten why) h = absurd h
+steps_stopped asked of edge inputs (Heaps passed) h = absurd h
 steps_stopped asked of edge inputs ReadFault h = absurd h
 
 -- ---- texts alone

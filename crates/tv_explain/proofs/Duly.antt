@@ -10,6 +10,9 @@ use Rattle.std.specs.Prelude.{All, Contains, IsSome, IsTrue, length, slice_get}
 use Rattle.tv_compiled.specs.Compiled.{written}
 use Rattle.tv_complete_text.specs.Text.{ReadsAsStructures}
 use Rattle.tv_front.specs.Meaning.{Means}
+use Rattle.tv_heap_search.specs.Answers.{AnswersFewest}
+use Rattle.tv_heap_search.specs.declared.fewest.Fewest.{Fewest}
+use Rattle.tv_heap_steps.specs.Settled.{AreAllSettled}
 use Rattle.tv_lemmas.proofs.Options.{same_Ok}
 use Rattle.tv_lex.specs.Gather.{longest_gathered}
 use Rattle.tv_lex.specs.Pieces.{Reads}
@@ -20,7 +23,10 @@ use Rattle.tv_losses.specs.Losses.{AreLosses}
 use Rattle.tv_losses.specs.declared.told.Losses.{Losses}
 use Rattle.tv_losses_text.specs.Reports.{AreNone}
 use Rattle.tv_model.proofs.Lists.{slice_get-contains}
+use Rattle.tv_model.specs.Heap.{Heap}
 use Rattle.tv_model.specs.Program.{MessageForm, ProgramForm, program_of}
+use Rattle.tv_model.specs.Run.{Stage}
+use Rattle.tv_model.specs.declared.program.Edge.{Edge}
 use Rattle.tv_model.specs.declared.program.Program.{Program}
 use Rattle.tv_outside.specs.Told.{Held}
 use Rattle.tv_status.specs.declared.status.FileKind.{FileKind}
@@ -33,17 +39,23 @@ use Rattle.tv_texts.proofs.OneFile.{one_file, one_held}
 use Rattle.tv_texts.specs.Files.{IsInitialFile, IsProgramFile, IsReportFile, IsSourceFile}
 use Rattle.tv_texts.specs.Meaning.{MeansInitial, MeansProgram, MeansReport, MeansSource}
 use Rattle.tv_trail.specs.Reasons.{ListsAt}
+use Rattle.tv_witness_laws.proofs.Counting.{enough_cells_show_runs}
+use Rattle.tv_witness_laws.specs.Laws.{asks_message}
+use Rattle.tv_witness_laws.specs.Witness.{HasWitness, IsWitness, Question, with_cells}
+use Rattle.tv_witness_text.specs.Cells.{cells_for}
+use Rattle.tv_witness_text.specs.Reports.{Task, TellsAnswer, question_along}
+use Rattle.tv_witness_text.specs.declared.answer.WitnessReport.{WitnessReport}
 use Rattle.tv_work.specs.Analyzed.{KeepAllBudgets, Meets}
 use Rattle.tv_work.specs.Reach.{AreMoreThan, IsReached}
 use Rattle.tv_explain.proofs.Alike.{AreRead, SameInputs, moved, not_refused, one_inputs, one_refusal, read_of}
 use Rattle.tv_explain.specs.Answers.{FilesMeanSuch, HasNoCompletion, HasNoText, IsAnswer, IsCompiledText}
 use Rattle.tv_explain.specs.Answers.{IsStopped, IsUnwritten, MeetsItsBudget, NamesNothing, PassesMost}
-use Rattle.tv_explain.specs.Answers.{Reached}
+use Rattle.tv_explain.specs.Answers.{LacksSearch, Reached, witness_task}
 use Rattle.tv_explain.specs.Answers.{IsCompletionOf, ReadsSuch, compiled_lines}
 use Rattle.tv_explain.specs.Call.{Commands, IsEnded, IsFound}
 use Rattle.tv_explain.specs.Delivery.{IsDelivered, ending_for}
 use Rattle.tv_explain.specs.Due.{Owes, CallsWithinLimits, CanAnswer, CanBeWritten, CommandOwes}
-use Rattle.tv_explain.specs.Due.{EndsAsOwed}
+use Rattle.tv_explain.specs.Due.{EndsAsOwed, SearchesSuch, StandsAnyway}
 use Rattle.tv_explain.specs.Due.{HasMessage, IsAbsent, MayStand, AtLimit, IsWithinLimits, KeepsLimits}
 use Rattle.tv_explain.specs.Due.{AreReadTogether, CanBeCompleted, CannotBeCompleted, CannotWrite, KeepsEach}
 use Rattle.tv_explain.specs.Due.{KeepsItsLimits}
@@ -54,6 +66,7 @@ use Rattle.tv_explain.specs.Meaning.{FilesMean, IsRefused, drawn_form}
 use Rattle.tv_explain.specs.declared.fault.Answer.{Answer}
 use Rattle.tv_explain.specs.declared.fault.Ending.{Ending}
 use Rattle.tv_explain.specs.declared.fault.Ending.TheVariants.{As, Lost, Absent, NotWritten as Unwritable}
+use Rattle.tv_explain.specs.declared.fault.Ending.TheVariants.{Unsearched}
 use Rattle.tv_explain.specs.declared.fault.Fault.{Fault}
 use Rattle.tv_explain.specs.declared.fault.Fault.TheVariants as fault
 use Rattle.tv_explain.specs.declared.fault.Sought.{Sought}
@@ -68,7 +81,7 @@ use Rattle.tv_texts.specs.declared.structures.StructuresText.{StructuresText}
 use Rattle.tv_explain_text.specs.Texts.{action_messages, messages_at}
 use Rattle.tv_explain_words.specs.Words.{AnalyzedForm, CommandForm, Shows, ListsEdges, TellsMessage}
 use Rattle.tv_explain_words.specs.Words.{TellsStructure, TellsLosses, Compiles, TakesStep, TellsPlan}
-use Rattle.tv_explain_words.specs.Words.{TellsCounts, Completes, Spells, SpellsNothing}
+use Rattle.tv_explain_words.specs.Words.{BoundsForm, TellsCounts, Completes, TellsWitness, Spells, SpellsNothing}
 
 -- ---- views of endings
 
@@ -88,6 +101,7 @@ due_view told command (As other) h = absurd h
 due_view told command Lost h = inr (inl (refl, h))
 due_view told command (Absent what) h = inr (inr (inr (inl (what, refl, h))))
 due_view told command (Unwritable why) h = inr (inr (inr (inr (why, refl, h))))
+due_view told command (Unsearched passed) h = absurd h
 
 -- a limit of the command is passed
 abbrev PassesLimit : CommandForm → AnalyzedForm → Inputs → Type 0
@@ -116,6 +130,7 @@ module _ (told : Option Held) where
   such_read (TellsLosses of) P h = (h.0, h.1)
   such_read (TakesStep of edge) P h = (h.0, h.1)
   such_read (TellsCounts of) P h = (h.0, h.1)
+  such_read (TellsWitness of edge number bounds) P h = (h.0, h.1)
   such_read other P h = absurd h
 
   such_also : (command : CommandForm) (P Q : AnalyzedForm → Inputs → Type 0)
@@ -126,6 +141,7 @@ module _ (told : Option Held) where
   such_also (TellsLosses of) P Q f h = (h.0, h.1, f of h.0 h.2)
   such_also (TakesStep of edge) P Q f h = (h.0, h.1, f of h.0 h.2)
   such_also (TellsCounts of) P Q f h = (h.0, h.1, f of h.0 h.2)
+  such_also (TellsWitness of edge number bounds) P Q f h = (h.0, h.1, f of h.0 h.2)
   such_also other P Q f h = absurd h
 
 -- structures that are read are those of the file
@@ -158,6 +174,7 @@ module _ (told : Option Held)
         let x = read_of told delta program h.0.0 h.0.1 in (x.0, x.1)
     answer_read (TellsCounts of) a h = (h.0.0, h.0.1)
     answer_read (Completes program structures) a h = structures_read told program structures _ h.0
+    answer_read (TellsWitness of edge number bounds) a h = (h.0, h.1)
 
     done_read : (command : CommandForm) → CanAnswer told command → AreRead told command
     done_read (Shows program report) h = h
@@ -170,15 +187,18 @@ module _ (told : Option Held)
     done_read (TellsPlan program mode delta) h = h
     done_read (TellsCounts of) h = (h.0, h.1)
     done_read (Completes program structures) h = h.0
+    done_read (TellsWitness of edge number bounds) h = (h.0, h.1)
 
     some_read : (command : CommandForm) → LosesSome told command → AreRead told command
     some_read (TellsLosses of) h = (h.0, h.1)
+    some_read (TellsWitness of edge number bounds) h = (h.0, h.1)
     some_read other h = absurd h
 
     absent_read : (command : CommandForm) (what : Sought) → IsAbsent told command what → AreRead told command
     absent_read (TellsMessage of edge number) what h = (h.0, h.1)
     absent_read (TellsStructure of node index) what h = (h.0, h.1)
     absent_read (TakesStep of edge) what h = (h.0, h.1)
+    absent_read (TellsWitness of edge number bounds) what h = (h.0, h.1)
     absent_read other what h = absurd h
 
     unwritten_read : (command : CommandForm) (why : Unwritten) → IsUnwritten told command why
@@ -234,8 +254,75 @@ one_lack p edge number sought.Edge sought.Node h k = absurd k
 one_lack p edge number sought.Edge sought.Structure h k = absurd k
 one_lack p edge number sought.Message sought.Node h k = absurd k
 one_lack p edge number sought.Message sought.Structure h k = absurd k
+one_lack p edge number sought.Edge sought.Values h k = absurd k
+one_lack p edge number sought.Message sought.Values h k = absurd k
 one_lack p edge number sought.Node other h k = absurd h
 one_lack p edge number sought.Structure other h k = absurd h
+one_lack p edge number sought.Values other h k = absurd h
+
+-- ---- searches among heaps
+
+-- what is found out of a message isn't lacking
+search_there : (p : ProgramForm) (edge number : ℕ) (x : MessageForm) (what : Sought)
+    → slice_get (messages_at p edge) number ≡ Some x → AreAllSettled p.actions → LacksSearch p edge number what → ⊥
+search_there p edge number x sought.Edge at settled lacks = edge_within p edge number x at lacks
+search_there p edge number x sought.Message at settled lacks = past_within (messages_at p edge) number x at lacks.1
+search_there p edge number x sought.Values at settled lacks = lacks.2 settled
+search_there p edge number x sought.Node at settled lacks = lacks
+search_there p edge number x sought.Structure at settled lacks = lacks
+
+-- nor is what can be searched for
+searched_there : (p : ProgramForm) (edge number : ℕ) (what : Sought) → edge < length p.edges
+    → number < length (messages_at p edge) → AreAllSettled p.actions → LacksSearch p edge number what → ⊥
+searched_there p edge number sought.Edge edges messages settled lacks =
+    not_both edge (length p.edges) edges lacks
+searched_there p edge number sought.Message edges messages settled lacks =
+    not_both number (length (messages_at p edge)) messages lacks.1
+searched_there p edge number sought.Values edges messages settled lacks = lacks.2 settled
+searched_there p edge number sought.Node edges messages settled lacks = lacks
+searched_there p edge number sought.Structure edges messages settled lacks = lacks
+
+one_search_lack : (p : ProgramForm) (edge number : ℕ) (what other : Sought) → LacksSearch p edge number what
+    → LacksSearch p edge number other → what ≡ other
+one_search_lack p edge number sought.Edge sought.Edge h k = refl
+one_search_lack p edge number sought.Edge sought.Message h k = absurd (not_both edge (length p.edges) k.0 h)
+one_search_lack p edge number sought.Edge sought.Values h k = absurd (not_both edge (length p.edges) k.0 h)
+one_search_lack p edge number sought.Edge sought.Node h k = absurd k
+one_search_lack p edge number sought.Edge sought.Structure h k = absurd k
+one_search_lack p edge number sought.Message sought.Edge h k = absurd (not_both edge (length p.edges) h.0 k)
+one_search_lack p edge number sought.Message sought.Message h k = refl
+one_search_lack p edge number sought.Message sought.Values h k =
+    absurd (not_both number (length (messages_at p edge)) k.1 h.1)
+one_search_lack p edge number sought.Message sought.Node h k = absurd k
+one_search_lack p edge number sought.Message sought.Structure h k = absurd k
+one_search_lack p edge number sought.Values sought.Edge h k = absurd (not_both edge (length p.edges) h.0 k)
+one_search_lack p edge number sought.Values sought.Message h k =
+    absurd (not_both number (length (messages_at p edge)) h.1 k.1)
+one_search_lack p edge number sought.Values sought.Values h k = refl
+one_search_lack p edge number sought.Values sought.Node h k = absurd k
+one_search_lack p edge number sought.Values sought.Structure h k = absurd k
+one_search_lack p edge number sought.Node other h k = absurd h
+one_search_lack p edge number sought.Structure other h k = absurd h
+
+-- a witness of fewer cells is one of more
+grown : (q : Question) (cells : ℕ) → cells ≤ q.cells → (start : Heap) (stages : List Stage)
+    → IsWitness (with_cells q cells) start stages → HasWitness q
+grown q cells few start stages is =
+    (start, stages, (enough_cells_show_runs (with_cells q cells)).more q.cells few start stages is)
+
+-- what a report says of the question
+report_none : (q : Question) (found : Option Fewest) (task : Task) (edge number : ℕ) (text : List ℕ)
+    (report : WitnessReport) → AnswersFewest q found → TellsAnswer task edge number text found report
+    → (¬ HasWitness q) → report.is_found ≡ false
+report_none q None task edge number text report answers tells none = tells.1
+report_none q (Some found) task edge number text report answers tells none =
+    absurd (none (grown q found.cells answers.0 answers.1.from answers.1.stages answers.1.is))
+
+report_some : (q : Question) (found : Option Fewest) (task : Task) (edge number : ℕ) (text : List ℕ)
+    (report : WitnessReport) → AnswersFewest q found → TellsAnswer task edge number text found report
+    → HasWitness q → report.is_found ≡ true
+report_some q None task edge number text report answers tells some = absurd (answers some)
+report_some q (Some found) task edge number text report answers tells some = tells.1
 
 edge_there : (p : ProgramForm) (edge : ℕ) (what : Sought) → edge < length p.edges → LacksEdge p edge what → ⊥
 edge_there p edge sought.Edge has lacks = not_both edge (length p.edges) has lacks
@@ -274,6 +361,13 @@ kept_each of asked edge b keeps (inr (inl any)) =
     (All-contains (KeepsBudgets (drawn_form b) edge) b.initial any.1 keeps (any.0, any.2, any.3)).splits any.4
 kept_each of asked edge b keeps (inr (inr any)) =
     (All-contains (KeepsBudgets (drawn_form b) edge) b.initial any.1 keeps (any.0, any.2, any.3)).individuals any.4
+
+-- a search among heaps has no limit of an analysis
+kept_heaps : (of asked : AnalyzedForm) (edge number : ℕ) (bounds : BoundsForm) (b : Inputs)
+    → PassesLimit (TellsWitness asked edge number bounds) of b → ⊥
+kept_heaps of asked edge number bounds b (inl many) = many
+kept_heaps of asked edge number bounds b (inr (inl meets)) = meets
+kept_heaps of asked edge number bounds b (inr (inr meets)) = meets
 
 -- a step along an edge meets a budget only where there is the edge
 edge_met : (of asked : AnalyzedForm) (edge : ℕ) (b : Inputs) → PassesLimit (TakesStep asked edge) of b
@@ -317,6 +411,19 @@ module _ (of : AnalyzedForm) (a b : Inputs) (same : SameInputs a b) where
 
   has_message : (edge number : ℕ) → HasMessage (drawn_form a) edge number → HasMessage (drawn_form b) edge number
   has_message edge number h = moved (λ p i. HasMessage p edge number) a b same h
+
+  lacks_search : (edge number : ℕ) (what : Sought) → LacksSearch (drawn_form a) edge number what
+      → LacksSearch (drawn_form b) edge number what
+  lacks_search edge number what h = moved (λ p i. LacksSearch p edge number what) a b same h
+
+  -- a search that can be made of the one can be of the other
+  searches : (edge number : ℕ) (bounds : BoundsForm) (IsSuch : Question → Type 0)
+      → SearchesSuch of a edge number bounds IsSuch → SearchesSuch of b edge number bounds IsSuch
+  searches edge number bounds IsSuch h = moved
+      (λ p i. (edge < length p.edges) × (number < length (messages_at p edge)) × AreAllSettled p.actions
+      × ((taken : Edge) (message : MessageForm) → slice_get p.edges edge ≡ Some taken
+      → slice_get (messages_at p edge) number ≡ Some message
+      → IsSuch (asks_message p of.mode i (cells_for bounds.cells i) taken message))) a b same h
 
   has_node : (node : List ℕ) → Contains (drawn_form a).nodes node → Contains (drawn_form b).nodes node
   has_node node h = moved (λ p i. Contains p.nodes node) a b same h
@@ -414,6 +521,13 @@ module _ (told : Option Held)
     done_answer (TellsPlan program mode delta) a h can = h.1
     done_answer (TellsCounts of) a h can = h.1
     done_answer (Completes program structures) a h can = h.1
+    done_answer (TellsWitness of edge number bounds) a h can =
+        let same = same_inputs of can.0 h.0 can.1 h.1 in
+        let such = searches of can.0 h.0 same edge number bounds (λ q. ¬ HasWitness q) can.2 in
+        let report = h.2.3 in
+        report_none (question_along (witness_task of h.0 bounds) report.0 h.2.0) report.2.0
+        (witness_task of h.0 bounds) edge number h.2.0.text (record { text = a.text; is_found = a.is_lost })
+        report.2.1 report.2.2 (such.3 report.0 h.2.0 report.1 h.2.1)
 
     lost_answer : (command : CommandForm) (a : Answer) → IsAnswer told command a → LosesSome told command
         → a.is_lost ≡ true
@@ -421,6 +535,13 @@ module _ (told : Option Held)
         let same = same_inputs of some.0 h.0 some.1 h.1 in
         let such = loses of some.0 h.0 same (λ losses. ¬ AreNone losses) some.3 h.2.losses h.2.are in
         lost_some a.is_lost (AreNone h.2.losses) h.2.any such
+    lost_answer (TellsWitness of edge number bounds) a h some =
+        let same = same_inputs of some.0 h.0 some.1 h.1 in
+        let such = searches of some.0 h.0 same edge number bounds HasWitness some.2 in
+        let report = h.2.3 in
+        report_some (question_along (witness_task of h.0 bounds) report.0 h.2.0) report.2.0
+        (witness_task of h.0 bounds) edge number h.2.0.text (record { text = a.text; is_found = a.is_lost })
+        report.2.1 report.2.2 (such.3 report.0 h.2.0 report.1 h.2.1)
     lost_answer other a h some = absurd some
 
     answer_there : (command : CommandForm) (a : Answer) (what : Sought) → IsAnswer told command a
@@ -446,6 +567,9 @@ module _ (told : Option Held)
     answer_there (TakesStep of edge) a what h lacks =
         edge_there (drawn_form h.0.0) edge what h.0.2.within
         (lacks_edge of lacks.0 h.0.0 (same_inputs of lacks.0 h.0.0 lacks.1 h.0.1) edge what lacks.2)
+    answer_there (TellsWitness of edge number bounds) a what h lacks =
+        search_there (drawn_form h.0) edge number h.2.0 what h.2.1 h.2.2
+        (lacks_search of lacks.0 h.0 (same_inputs of lacks.0 h.0 lacks.1 h.1) edge number what lacks.2)
     answer_there other a what h lacks = lacks
 
     answer_written : (command : CommandForm) (a : Answer) (why : Unwritten) → IsAnswer told command a
@@ -487,6 +611,7 @@ module _ (told : Option Held)
         (as_said of (λ p i. All (KeepsBudgets p edge) i) keeps.0 h.0 keeps.1 h.1 keeps.2) h.2
     within_limits (TellsCounts of) h keeps = kept_reached of of h.0
         (as_said of (λ p i. KeepAllBudgets p (IsReached p of.mode i)) keeps.0 h.0 keeps.1 h.1 keeps.2) h.2
+    within_limits (TellsWitness of edge number bounds) h keeps = kept_heaps of of edge number bounds h.0 h.2
     within_limits other h keeps = h
 
     done_within : (command : CommandForm) → Stops told command → CanAnswer told command → ⊥
@@ -497,10 +622,12 @@ module _ (told : Option Held)
     done_within (TellsLosses of) h can = within_limits (TellsLosses of) h (can.0, can.1, can.2)
     done_within (TakesStep of edge) h can = within_limits (TakesStep of edge) h (can.0, can.1, can.2)
     done_within (TellsCounts of) h can = within_limits (TellsCounts of) h (can.0, can.1, can.2)
+    done_within (TellsWitness of edge number bounds) h can = kept_heaps of of edge number bounds h.0 h.2
     done_within other h can = h
 
     some_within : (command : CommandForm) → Stops told command → LosesSome told command → ⊥
     some_within (TellsLosses of) h some = within_limits (TellsLosses of) h (some.0, some.1, some.2)
+    some_within (TellsWitness of edge number bounds) h some = kept_heaps of of edge number bounds h.0 h.2
     some_within other h some = some
 
     stops_there : (command : CommandForm) (what : Sought) → Stops told command → IsAbsent told command what → ⊥
@@ -511,6 +638,7 @@ module _ (told : Option Held)
     stops_there (TakesStep of edge) what h lacks =
         edge_there (drawn_form h.0) edge what (edge_met of of edge h.0 h.2)
         (lacks_edge of lacks.0 h.0 (same_inputs of lacks.0 h.0 lacks.1 h.1) edge what lacks.2)
+    stops_there (TellsWitness of edge number bounds) what h lacks = kept_heaps of of edge number bounds h.0 h.2
     stops_there other what h lacks = lacks
 
     -- ---- what isn't there
@@ -541,12 +669,20 @@ module _ (told : Option Held)
         (has_edge of can.0 h.0 (same_inputs of can.0 h.0 can.1 h.1) edge can.3)
         (edge_lack of of h.0 edge what h.2)
     absent_done (TellsCounts of) what h can = h.2
+    absent_done (TellsWitness of edge number bounds) what h can =
+        let same = same_inputs of can.0 h.0 can.1 h.1 in
+        let such = searches of can.0 h.0 same edge number bounds (λ q. ¬ HasWitness q) can.2 in
+        searched_there (drawn_form h.0) edge number what such.0 such.1 such.2 h.2
     absent_done other what h can = h
 
     absent_some : (command : CommandForm) (what : Sought)
         → FilesMeanSuch told command (λ of inputs. NamesNothing command of inputs what)
         → LosesSome told command → ⊥
     absent_some (TellsLosses of) what h some = h.2
+    absent_some (TellsWitness of edge number bounds) what h some =
+        let same = same_inputs of some.0 h.0 some.1 h.1 in
+        let such = searches of some.0 h.0 same edge number bounds HasWitness some.2 in
+        searched_there (drawn_form h.0) edge number what such.0 such.1 such.2 h.2
     absent_some other what h some = some
 
     one_absence : (command : CommandForm) (what other : Sought)
@@ -572,11 +708,17 @@ module _ (told : Option Held)
         by sought.Node sought.Message none lacks = absurd lacks
         by sought.Structure sought.Edge none lacks = absurd lacks
         by sought.Structure sought.Message none lacks = absurd lacks
+        by sought.Node sought.Values none lacks = absurd lacks
+        by sought.Structure sought.Values none lacks = absurd lacks
         by sought.Edge other none lacks = absurd none
         by sought.Message other none lacks = absurd none
+        by sought.Values other none lacks = absurd none
     one_absence (TakesStep of edge) what other h lacks =
         one_edge_lack (drawn_form h.0) edge what other (edge_lack of of h.0 edge what h.2)
         (lacks_edge of lacks.0 h.0 (same_inputs of lacks.0 h.0 lacks.1 h.1) edge other lacks.2)
+    one_absence (TellsWitness of edge number bounds) what other h lacks =
+        one_search_lack (drawn_form h.0) edge number what other h.2
+        (lacks_search of lacks.0 h.0 (same_inputs of lacks.0 h.0 lacks.1 h.1) edge number other lacks.2)
     one_absence other what sought h lacks = absurd lacks
 
     -- ---- programs that aren't written
@@ -734,6 +876,7 @@ found_ends words told rose steady (Err (fault.NotThere what)) h =
     inr (inr (h.0, h.1, inr (inr (inr (inl (what, refl, h.2))))))
 found_ends words told rose steady (Err (fault.NotWritten why)) h =
     inr (inr (h.0, h.1, inr (inr (inr (inr (why, refl, h.2))))))
+found_ends words told rose steady (Err (fault.Heaps passed)) h = inr (inl tt)
 found_ends words told rose steady (Err fault.ReadFault) h = inr (inl tt)
 found_ends words told rose steady (Err fault.Memory) h = inr (inl tt)
 
@@ -771,6 +914,7 @@ call_view words told (As other) h = inr h
 call_view words told Lost h = inr h
 call_view words told (Absent what) h = inr h
 call_view words told (Unwritable why) h = inr h
+call_view words told (Unsearched passed) h = inr h
 
 -- a source program that is read
 source_file : (told : Option Held) (name : List ℕ) (read : SourceText) → IsSourceText told name read
@@ -880,6 +1024,7 @@ module _ (one : (words : List (List ℕ)) (a b : CommandForm) → Spells words a
         unexcused (As status.ReadFault) excuse limit = limit
         unexcused (As status.WriteFault) excuse limit = limit
         unexcused (As status.Memory) excuse limit = limit
+        unexcused (Unsearched passed) excuse limit = limit
         unexcused other excuse limit = excuse
     called_within words told ending (inr (inr h)) keeps limit =
         spelled_within told keeps.2.0 words ending h keeps limit
@@ -898,34 +1043,37 @@ module _ (one : (words : List (List ℕ)) (a b : CommandForm) → Spells words a
 
 -- ---- where nothing fails
 
--- where no count of faults rose, the one excuse is lack of memory
+-- where no count of faults rose, the excuses are lack of memory and a search that passed its limit
 memory_excuses : (words : List (List ℕ)) (told : Option Held) (rose steady : Type 0) (found : Result Answer Fault)
     → IsFound words told rose steady found → (¬ rose) → MayStand (ending_for found)
-    → ending_for found ≡ As status.Memory
+    → StandsAnyway (ending_for found)
 memory_excuses words told rose steady (Ok a) h no_read excuse = absurd (unexcused a.is_lost excuse)
   where
     unexcused : (is_lost : Bool) → MayStand (ending_with is_lost) → ⊥
     unexcused true excuse = excuse
     unexcused false excuse = excuse
 memory_excuses words told rose steady (Err fault.ReadFault) h no_read excuse = absurd (no_read h.2.0)
-memory_excuses words told rose steady (Err fault.Memory) h no_read excuse = refl
+memory_excuses words told rose steady (Err fault.Memory) h no_read excuse = tt
+memory_excuses words told rose steady (Err (fault.Heaps passed)) h no_read excuse = tt
 memory_excuses words told rose steady (Err other) h no_read excuse = absurd excuse
 
 pub ends_fully : (words : List (List ℕ)) (told : Option Held) (read_rose steady out_rose err_rose : Type 0)
     (out_old out_new err_old err_new : Option (List ℕ)) (ending : Ending)
     → IsEnded words told read_rose steady out_rose err_rose out_old out_new err_old err_new ending
     → EndsAsOwed words told ending (MayStand ending) → (¬ read_rose) → (¬ out_rose) → (¬ err_rose)
-    → EndsAsOwed words told ending (ending ≡ As status.Memory)
+    → EndsAsOwed words told ending (StandsAnyway ending)
 ends_fully words told rose steady or er oo on eo en ending h exact no_read no_out no_err = record {
   due = λ due calls. or_memory (exact.due due calls);
   within = exact.within;
 }
   where
     by : MayStand ending → (ending ≡ ending_for h.found) ⊎ ((ending ≡ As status.WriteFault) × (or ⊎ er))
-        → ending ≡ As status.Memory
-    by excuse (inl e) = e ∙ memory_excuses words told rose steady h.found h.is no_read (subst MayStand e excuse)
+        → StandsAnyway ending
+    by excuse (inl e) =
+        subst StandsAnyway (sym e)
+        (memory_excuses words told rose steady h.found h.is no_read (subst MayStand e excuse))
     by excuse (inr e) = absurd (⊎_elim no_out no_err e.1)
 
-    or_memory : {P : Type 0} → P ⊎ MayStand ending → P ⊎ (ending ≡ As status.Memory)
+    or_memory : {P : Type 0} → P ⊎ MayStand ending → P ⊎ StandsAnyway ending
     or_memory (inl same) = inl same
     or_memory (inr excuse) = inr (by excuse (ends_as h.found ending or er oo on eo en h.gives))

@@ -11,10 +11,10 @@ use Rattle.tv_explain.specs.declared.fault.Ending.{Ending}
 use Rattle.tv_explain.specs.declared.fault.Fault.{Fault}
 use Rattle.tv_explain.specs.declared.fault.Fault.TheVariants.{Usage, FileFault, Structures, TooManySplits}
 use Rattle.tv_explain.specs.declared.fault.Fault.TheVariants.{TooManyIndividuals, NotThere, NotWritten}
-use Rattle.tv_explain.specs.declared.fault.Fault.TheVariants.{ReadFault, Memory}
+use Rattle.tv_explain.specs.declared.fault.Fault.TheVariants.{Heaps, ReadFault, Memory}
 use Rattle.tv_explain_words.specs.Words.{AnalyzedForm, CommandForm, Shows, ListsEdges, TellsMessage}
 use Rattle.tv_explain_words.specs.Words.{TellsStructure, TellsLosses, Compiles, TakesStep, TellsPlan}
-use Rattle.tv_explain_words.specs.Words.{TellsCounts, Completes, Spells}
+use Rattle.tv_explain_words.specs.Words.{TellsCounts, Completes, TellsWitness, Spells}
 
 module _ (told : Option Held) where
   inputs_not_missing : (of : AnalyzedForm) → HoldsInputs told of → LacksInputs told of → ⊥
@@ -34,6 +34,7 @@ module _ (told : Option Held) where
   not_missing (TellsCounts of) holds lacks = inputs_not_missing of holds lacks
   not_missing (Completes program structures) holds (inl lacks) = holds.0 lacks
   not_missing (Completes program structures) holds (inr later) = later.2 holds.1
+  not_missing (TellsWitness of edge number bounds) holds lacks = inputs_not_missing of holds lacks
 
   -- no file is missing where all that the command asks for are there
   pub none_missing : ((words : List (List ℕ)) (a b : CommandForm) → Spells words a → Spells words b → a ≡ b)
@@ -53,6 +54,7 @@ module _ (told : Option Held) where
   no_fault words rose steady P (Err TooManyIndividuals) none is cause h = h
   no_fault words rose steady P (Err (NotThere what)) none is cause h = h
   no_fault words rose steady P (Err (NotWritten why)) none is cause h = h
+  no_fault words rose steady P (Err (Heaps passed)) none is cause h = h
   no_fault words rose steady P (Err ReadFault) none is cause h =
       absurd (none (cause.0, cause.1, cause.2.1 is))
   no_fault words rose steady P (Err Memory) none is cause h = h
@@ -76,6 +78,7 @@ stays_steady (Err TooManySplits) ending or er oo on eo en P Q (same, inl (e, tak
 stays_steady (Err TooManyIndividuals) ending or er oo on eo en P Q (same, inl (e, taken)) h = rw e h.0
 stays_steady (Err (NotThere what)) ending or er oo on eo en P Q (same, inl (e, taken)) h = rw e h.0
 stays_steady (Err (NotWritten why)) ending or er oo on eo en P Q (same, inl (e, taken)) h = rw e h.0
+stays_steady (Err (Heaps passed)) ending or er oo on eo en P Q (same, inl (e, taken)) h = rw e h.0
 stays_steady (Err ReadFault) ending or er oo on eo en P Q (same, inl (e, taken)) h = rw e tt
 stays_steady (Err Memory) ending or er oo on eo en P Q (same, inl (e, taken)) h = rw e h.0
 stays_steady (Err met) ending or er oo on eo en P Q (same, inr (e, its, taken)) h = rw e tt

@@ -11,3 +11,4 @@ mod Questions
 mod Silence
 mod Steps
 mod Trees
+mod Searches

@@ -8,7 +8,7 @@ use Rattle.tv_explain.specs.Answers.{IsAnswer, IsStopped}
 use Rattle.tv_explain.specs.Begins.{BeginsFor, FewBegins}
 use Rattle.tv_explain.specs.Call.{IsCommandCause}
 use Rattle.tv_explain.specs.Meaning.{FilesMean}
-use Rattle.tv_explain.specs.Questions.{IsTold, command_of}
+use Rattle.tv_explain.specs.Questions.{IsTold, command_of, witness_command}
 use Rattle.tv_explain.specs.Work.{IsInputsCause}
 use Rattle.tv_explain.specs.declared.fault.Answer.{Answer}
 use Rattle.tv_explain.specs.declared.fault.Fault.{Fault}
@@ -32,6 +32,8 @@ module _ (told : Option Held) (of : AnalyzedForm) where
       inputs_cause told (TakesStep of edge) of rose steady f (λ k r. r) (λ k r. r) (λ l. l) h
   unread asked.Counts rose steady f h =
       inputs_cause told (TellsCounts of) of rose steady f (λ k r. r) (λ k r. r) (λ l. l) h
+  unread (asked.Witness search) rose steady f h =
+      inputs_cause told (witness_command of search) of rose steady f (λ k r. r) (λ k r. r) (λ l. l) h
 
   -- what stops the answer stops the command
   pub stopped : (question : Question) (inputs : Inputs) (rose steady : Type 0) (f : Fault)
@@ -47,6 +49,8 @@ module _ (told : Option Held) (of : AnalyzedForm) where
       stopped_cause told (TakesStep of edge) of inputs rose steady f (λ P is. (inputs, means, is)) h
   stopped asked.Counts inputs rose steady f means h =
       stopped_cause told (TellsCounts of) of inputs rose steady f (λ P is. (inputs, means, is)) h
+  stopped (asked.Witness search) inputs rose steady f means h =
+      stopped_cause told (witness_command of search) of inputs rose steady f (λ P is. (inputs, means, is)) h
 
   -- the answer to the question is the command's
   pub answered : (question : Question) (inputs : Inputs) (answer : Answer) → FilesMean told of inputs
@@ -56,6 +60,7 @@ module _ (told : Option Held) (of : AnalyzedForm) where
   answered asked.Losses inputs answer means h = (inputs, means, h)
   answered (asked.Step edge) inputs answer means h = ((inputs, means, h.0), h.1)
   answered asked.Counts inputs answer means h = ((inputs, means, h.0), h.1)
+  answered (asked.Witness search) inputs answer means h = (inputs, means, h)
 
   -- ---- how often files are begun
 
@@ -67,6 +72,7 @@ module _ (told : Option Held) (of : AnalyzedForm) where
   begun asked.Losses old new h = h
   begun (asked.Step edge) old new h = h
   begun asked.Counts old new h = h
+  begun (asked.Witness search) old new h = h
 
   pub few_begun : (question : Question) (old new : ℕ)
       → BeginsAtMost told (λ held. program_begins held of.program + 1) old new
@@ -76,3 +82,4 @@ module _ (told : Option Held) (of : AnalyzedForm) where
   few_begun asked.Losses old new h = h
   few_begun (asked.Step edge) old new h = h
   few_begun asked.Counts old new h = h
+  few_begun (asked.Witness search) old new h = h

@@ -35,9 +35,10 @@ use Rattle.tv_work.specs.Reach.{AreMoreThan, IsReached, Point}
 use Rattle.tv_explain.specs.Meaning.{FilesMean, IsDrawnFile, drawn_form, heads_in}
 use Rattle.tv_explain.specs.declared.fault.Answer.{Answer}
 use Rattle.tv_explain.specs.declared.fault.Fault.{Fault}
-use Rattle.tv_explain.specs.declared.fault.Fault.TheVariants.{Memory, NotThere, Structures}
+use Rattle.tv_explain.specs.declared.fault.Fault.TheVariants.{Heaps, Memory, NotThere, Structures}
 use Rattle.tv_explain.specs.declared.fault.Fault.TheVariants.{TooManyIndividuals}
 use Rattle.tv_explain.specs.declared.fault.Fault.TheVariants.{TooManySplits}
+use Rattle.tv_explain.specs.declared.fault.Passed.{Passed}
 use Rattle.tv_explain.specs.declared.fault.Sought.{Sought}
 use Rattle.tv_explain.specs.declared.fault.Sought.TheVariants as sought
 use Rattle.tv_explain.specs.declared.fault.Unwritten.{Unwritten}
@@ -48,7 +49,11 @@ use Rattle.tv_explain_text.specs.Texts.{edges_text, messages_at, shown_text}
 use Rattle.tv_explain_text.specs.Trails.{at_hand_line, raised_line, trail_text}
 use Rattle.tv_explain_words.specs.Words.{AnalyzedForm, CommandForm, Shows, ListsEdges, TellsMessage}
 use Rattle.tv_explain_words.specs.Words.{TellsStructure, TellsLosses, Compiles, TakesStep, TellsPlan}
-use Rattle.tv_explain_words.specs.Words.{TellsCounts, Completes}
+use Rattle.tv_explain_words.specs.Words.{BoundsForm, TellsCounts, Completes, TellsWitness}
+use Rattle.tv_heap_search.specs.declared.error.Unanswered.TheVariants.{TooMany}
+use Rattle.tv_heap_steps.specs.Settled.{AreAllSettled}
+use Rattle.tv_witness_text.specs.Cells.{cells_for}
+use Rattle.tv_witness_text.specs.Reports.{IsCauseOfNoReport, IsWitnessReport, Task}
 
 -- ---- messages and structures
 
@@ -88,6 +93,33 @@ abbrev pub TellsOfLosses : AnalyzedForm → Inputs → Answer → Type 0
 TellsOfLosses of inputs answer =
     IsLossReport (drawn_form inputs) (heads_in inputs) of.mode inputs.initial of.max
     (record { text = answer.text; is_any = answer.is_lost })
+
+-- ---- witnesses
+
+-- where witnesses are searched
+abbrev pub witness_task : AnalyzedForm → Inputs → BoundsForm → Task
+witness_task of inputs bounds = record {
+  program = inputs.drawn.program;
+  heads = heads_in inputs;
+  initial = inputs.initial;
+  mode = of.mode;
+  cells = cells_for bounds.cells inputs.initial;
+}
+
+-- the answer is what is told of the message of this number among those of the edge's action, and says whether
+-- a witness is
+abbrev pub TellsOfWitness : AnalyzedForm → Inputs → (edge number : ℕ) → BoundsForm → Answer → Type 0
+TellsOfWitness of inputs edge number bounds answer = (message : MessageForm)
+    × (slice_get (messages_at (drawn_form inputs) edge) number ≡ Some message)
+    × AreAllSettled (drawn_form inputs).actions
+    × IsWitnessReport (witness_task of inputs bounds) edge number message
+    (record { text = answer.text; is_found = answer.is_lost })
+
+-- the search with so many individuals has passed its limit, and no witness has fewer
+abbrev pub PassesStates : AnalyzedForm → Inputs → (edge number : ℕ) → BoundsForm → Passed → Type 0
+PassesStates of inputs edge number bounds passed = (passed.states ≡ bounds.states) × (message : MessageForm)
+    × (slice_get (messages_at (drawn_form inputs) edge) number ≡ Some message)
+    × IsCauseOfNoReport (witness_task of inputs bounds) edge message (TooMany passed.cells)
 
 -- ---- compiled programs
 
@@ -163,12 +195,15 @@ IsText told (TellsCounts of) text = (inputs : Inputs) × FilesMean told of input
     × IsCountsText (drawn_form inputs) of.mode inputs.initial of.max text
 IsText told (Completes program structures) text = ReadsSuch told program structures
     (λ p read. IsCompletedText p read.bytes.items read.tokens.list.items read.structures text)
+IsText told (TellsWitness of edge number bounds) text = ⊥
 
--- The answer is what the command gives: of `losses` what the analysis loses; of each other a text, and that
--- nothing is lost.
+-- The answer is what the command gives: of `losses` what the analysis loses; of `witness` what is told of a
+-- message; of each other a text, and that nothing is lost.
 abbrev pub IsAnswer : Option Held → CommandForm → Answer → Type 0
 IsAnswer told (TellsLosses of) answer = (inputs : Inputs) × FilesMean told of inputs
     × TellsOfLosses of inputs answer
+IsAnswer told (TellsWitness of edge number bounds) answer = (inputs : Inputs) × FilesMean told of inputs
+    × TellsOfWitness of inputs edge number bounds answer
 IsAnswer told other answer = IsText told other answer.text.items × (answer.is_lost ≡ false)
 
 -- ---- limits, and what isn't there
@@ -177,8 +212,20 @@ IsAnswer told other answer = IsText told other answer.text.items × (answer.is_l
 abbrev pub Reached : AnalyzedForm → Inputs → Point → Type 0
 Reached of inputs = IsReached (drawn_form inputs) of.mode inputs.initial
 
+-- no message of the edge can be searched for: the program has no edge of that number, or the edge's action no
+-- such message; or an action leaves a predicate free
+abbrev pub LacksSearch : ProgramForm → (edge number : ℕ) → Sought → Type 0
+LacksSearch p edge number sought.Edge = length p.edges ≤ edge
+LacksSearch p edge number sought.Message =
+    (edge < length p.edges) × (length (messages_at p edge) ≤ number)
+LacksSearch p edge number sought.Node = ⊥
+LacksSearch p edge number sought.Structure = ⊥
+LacksSearch p edge number sought.Values =
+    (edge < length p.edges) × (number < length (messages_at p edge)) × (¬ AreAllSettled p.actions)
+
 -- what the words name isn't there: the program has no edge of that number, the edge's action no such message,
--- the program no node of that name, or the analysis no structure at that place of it
+-- the program no node of that name, or the analysis no structure at that place of it; or no message can be
+-- searched for
 abbrev pub NamesNothing : CommandForm → AnalyzedForm → Inputs → Sought → Type 0
 NamesNothing (TellsMessage asked edge number) of inputs sought.Edge = length (drawn_form inputs).edges ≤ edge
 NamesNothing (TellsMessage asked edge number) of inputs sought.Message =
@@ -189,12 +236,15 @@ NamesNothing (TellsStructure asked node index) of inputs sought.Structure = (pla
     × (slice_get (drawn_form inputs).nodes place ≡ Some node)
     × HasNone (drawn_form inputs) of.mode inputs.initial of.max place index
 NamesNothing (TakesStep asked edge) of inputs sought.Edge = length (drawn_form inputs).edges ≤ edge
+NamesNothing (TellsWitness asked edge number bounds) of inputs what =
+    LacksSearch (drawn_form inputs) edge number what
 NamesNothing command of inputs other = ⊥
 
--- more structures are reached than may be listed; a step, and counts, have no such limit
+-- more structures are reached than may be listed; a step, counts and a search among heaps have no such limit
 abbrev pub PassesMost : CommandForm → AnalyzedForm → Inputs → Type 0
 PassesMost (TakesStep asked edge) of inputs = ⊥
 PassesMost (TellsCounts asked) of inputs = ⊥
+PassesMost (TellsWitness asked edge number bounds) of inputs = ⊥
 PassesMost command of inputs = AreMoreThan of.max (Reached of inputs)
 
 -- a step that the command takes meets the budget: that of a structure along the command's edge, of an
@@ -202,16 +252,25 @@ PassesMost command of inputs = AreMoreThan of.max (Reached of inputs)
 abbrev pub MeetsItsBudget : CommandForm → AnalyzedForm → Inputs
     → (Budget : ProgramForm → (edge : ℕ) → StructureForm → Type 0) → Type 0
 MeetsItsBudget (TakesStep asked edge) of inputs Budget = Any (Budget (drawn_form inputs) edge) inputs.initial
+MeetsItsBudget (TellsWitness asked edge number bounds) of inputs Budget = ⊥
 MeetsItsBudget command of inputs Budget =
     Meets (drawn_form inputs) (Budget (drawn_form inputs)) (Reached of inputs)
 
+-- a search among heaps has passed its limit
+abbrev pub PassesItsStates : CommandForm → AnalyzedForm → Inputs → Passed → Type 0
+PassesItsStates (TellsWitness asked edge number bounds) of inputs passed =
+    PassesStates of inputs edge number bounds passed
+PassesItsStates command of inputs passed = ⊥
+
 -- why the command gives no text where its files mean these: more structures are reached than may be listed,
--- a step that it takes meets a budget, what is named isn't there, or memory ran out
+-- a step that it takes meets a budget, what is named isn't there, a search passes its limit, or memory ran
+-- out
 abbrev pub IsStopped : CommandForm → AnalyzedForm → Inputs → Fault → Type 0
 IsStopped command of inputs (Structures max) = (max ≡ of.max) × PassesMost command of inputs
 IsStopped command of inputs TooManySplits = MeetsItsBudget command of inputs MeetsSplits
 IsStopped command of inputs TooManyIndividuals = MeetsItsBudget command of inputs MeetsIndividuals
 IsStopped command of inputs (NotThere what) = NamesNothing command of inputs what
+IsStopped command of inputs (Heaps passed) = PassesItsStates command of inputs passed
 IsStopped command of inputs Memory = Unit {0}
 IsStopped command of inputs other = ⊥
 
@@ -230,6 +289,8 @@ FilesMeanSuch told (TakesStep of edge) AreSuch =
 FilesMeanSuch told (TellsPlan program mode delta) AreSuch = ⊥
 FilesMeanSuch told (TellsCounts of) AreSuch = (inputs : Inputs) × FilesMean told of inputs × AreSuch of inputs
 FilesMeanSuch told (Completes program structures) AreSuch = ⊥
+FilesMeanSuch told (TellsWitness of edge number bounds) AreSuch =
+    (inputs : Inputs) × FilesMean told of inputs × AreSuch of inputs
 
 -- it is a command on a source program, which is compiled, or on structures that are completed, and what
 -- comes of it isn't written, for this reason

@@ -6,7 +6,8 @@ use Rattle.tv_listing.specs.declared.analysis.Analysis.{Analysis}
 use Rattle.tv_losses.specs.Losses.{AreLosses}
 use Rattle.tv_losses.specs.declared.told.Losses.{Losses}
 use Rattle.tv_losses_text.specs.Reports.{AreNone}
-use Rattle.tv_model.specs.Program.{ProgramForm}
+use Rattle.tv_model.specs.Program.{MessageForm, ProgramForm}
+use Rattle.tv_model.specs.declared.program.Edge.{Edge}
 use Rattle.tv_model.specs.declared.program.Mode.{Mode}
 use Rattle.tv_model.specs.declared.program.Program.{Program}
 use Rattle.tv_outside.specs.Told.{Held}
@@ -20,11 +21,12 @@ use Rattle.tv_texts.specs.Meaning.{MeansProgram}
 use Rattle.tv_trail.specs.Reasons.{ListsAt}
 use Rattle.tv_work.specs.Analyzed.{KeepAllBudgets}
 use Rattle.tv_work.specs.Reach.{AreMoreThan, IsReached}
-use Rattle.tv_explain.specs.Answers.{FilesMeanSuch, IsCompletionOf, IsUnwritten, compiled_lines}
+use Rattle.tv_explain.specs.Answers.{FilesMeanSuch, IsCompletionOf, IsUnwritten, LacksSearch, compiled_lines}
 use Rattle.tv_explain.specs.Call.{Commands}
 use Rattle.tv_explain.specs.Meaning.{FilesMean, IsRefused, drawn_form}
 use Rattle.tv_explain.specs.declared.fault.Ending.{Ending}
 use Rattle.tv_explain.specs.declared.fault.Ending.TheVariants.{As, Lost, Absent, NotWritten as Unwritable}
+use Rattle.tv_explain.specs.declared.fault.Ending.TheVariants.{Unsearched}
 use Rattle.tv_explain.specs.declared.fault.Sought.{Sought}
 use Rattle.tv_explain.specs.declared.fault.Sought.TheVariants as sought
 use Rattle.tv_explain.specs.declared.fault.Unwritten.{Unwritten}
@@ -37,7 +39,11 @@ use Rattle.tv_texts.specs.declared.source.SourceText.{SourceText}
 use Rattle.tv_texts.specs.declared.structures.StructuresText.{StructuresText}
 use Rattle.tv_explain_words.specs.Words.{AnalyzedForm, CommandForm, Shows, ListsEdges, TellsMessage}
 use Rattle.tv_explain_words.specs.Words.{TellsStructure, TellsLosses, Compiles, TakesStep, TellsPlan}
-use Rattle.tv_explain_words.specs.Words.{TellsCounts, Completes, SpellsNothing}
+use Rattle.tv_explain_words.specs.Words.{BoundsForm, TellsCounts, Completes, TellsWitness, SpellsNothing}
+use Rattle.tv_heap_steps.specs.Settled.{AreAllSettled}
+use Rattle.tv_witness_laws.specs.Laws.{asks_message}
+use Rattle.tv_witness_laws.specs.Witness.{HasWitness, Question}
+use Rattle.tv_witness_text.specs.Cells.{cells_for}
 
 -- ---- what an analysis is like
 
@@ -62,6 +68,7 @@ KeepsReached of inputs =
 abbrev pub KeepsItsLimits : CommandForm → AnalyzedForm → Inputs → Type 0
 KeepsItsLimits (TakesStep asked edge) of inputs = KeepsEach edge inputs
 KeepsItsLimits (TellsCounts asked) of inputs = KeepsReached of inputs
+KeepsItsLimits (TellsWitness asked edge number bounds) of inputs = Unit {0}
 KeepsItsLimits command of inputs = IsWithinLimits of inputs
 
 -- wherever a node of this name stands, what the analysis lists there is such
@@ -97,6 +104,18 @@ CanBeCompleted p read =
     (completed : List StructureForm) (text : List ℕ) → IsCompletionOf p read completed text
     → (length text ≤ longest_gathered) × ReadsAsStructures p.vocab text completed
 
+-- a message can be searched for, and the question is such
+abbrev pub SearchesSuch : AnalyzedForm → Inputs → (edge number : ℕ) → BoundsForm → (Question → Type 0)
+    → Type 0
+SearchesSuch of inputs edge number bounds IsSuch =
+    (edge < length (drawn_form inputs).edges) × (number < length (messages_at (drawn_form inputs) edge))
+    × AreAllSettled (drawn_form inputs).actions
+    × ((taken : Edge) (message : MessageForm) → slice_get (drawn_form inputs).edges edge ≡ Some taken
+    → slice_get (messages_at (drawn_form inputs) edge) number ≡ Some message
+    → IsSuch
+    (asks_message (drawn_form inputs) of.mode inputs.initial (cells_for bounds.cells inputs.initial) taken
+    message))
+
 -- nothing stands in the way of an answer that tells of nothing lost
 abbrev pub CanAnswer : Option Held → CommandForm → Type 0
 CanAnswer told (Shows program report) = (p : Program) × IsProgramFile told program (Ok p)
@@ -117,11 +136,15 @@ CanAnswer told (TellsCounts of) = (inputs : Inputs) × FilesMean told of inputs 
 CanAnswer told (Completes program structures) = AreReadTogether told program structures
     × ((p : Program) (read : StructuresText) → IsProgramFile told program (Ok p)
     → IsStructuresText told structures p read → CanBeCompleted p read)
+CanAnswer told (TellsWitness of edge number bounds) = (inputs : Inputs) × FilesMean told of inputs
+    × SearchesSuch of inputs edge number bounds (λ q. ¬ HasWitness q)
 
--- it is `losses`, of an analysis that loses something
+-- it is `losses`, of an analysis that loses something; or `witness`, of a message that has one
 abbrev pub LosesSome : Option Held → CommandForm → Type 0
 LosesSome told (TellsLosses of) = (inputs : Inputs) × FilesMean told of inputs
     × IsWithinLimits of inputs × LosesSuch of inputs (λ losses. ¬ AreNone losses)
+LosesSome told (TellsWitness of edge number bounds) = (inputs : Inputs) × FilesMean told of inputs
+    × SearchesSuch of inputs edge number bounds HasWitness
 LosesSome told other = ⊥
 
 -- the program has no edge of that number, or the edge's action no such message
@@ -151,6 +174,8 @@ IsAbsent told (TellsStructure of node index) what = (inputs : Inputs) × FilesMe
     × IsWithinLimits of inputs × LacksStructure of inputs node index what
 IsAbsent told (TakesStep of edge) what = (inputs : Inputs) × FilesMean told of inputs
     × LacksEdge (drawn_form inputs) edge what
+IsAbsent told (TellsWitness of edge number bounds) what = (inputs : Inputs) × FilesMean told of inputs
+    × LacksSearch (drawn_form inputs) edge number what
 IsAbsent told other what = ⊥
 
 -- each completed file is too long, or none means the completed structures, as the reason says
@@ -178,6 +203,7 @@ CommandOwes told command (As other) = ⊥
 CommandOwes told command Lost = LosesSome told command
 CommandOwes told command (Absent what) = IsAbsent told command what
 CommandOwes told command (Unwritable why) = CannotWrite told command why
+CommandOwes told command (Unsearched passed) = ⊥
 
 -- the words, and the files that tell what they hold, call for this ending
 abbrev pub Owes : List (List ℕ) → Option Held → Ending → Type 0
@@ -201,7 +227,14 @@ abbrev pub MayStand : Ending → Type 0
 MayStand (As status.ReadFault) = Unit {0}
 MayStand (As status.WriteFault) = Unit {0}
 MayStand (As status.Memory) = Unit {0}
+MayStand (Unsearched passed) = Unit {0}
 MayStand other = ⊥
+
+-- one that may where no call outside fails
+abbrev pub StandsAnyway : Ending → Type 0
+StandsAnyway (As status.Memory) = Unit {0}
+StandsAnyway (Unsearched passed) = Unit {0}
+StandsAnyway other = ⊥
 
 -- the ending, wherever in a file a fault stands, and whichever of its reasons keeps a text from being written
 abbrev pub without_details : Ending → Ending

@@ -1,5 +1,6 @@
 -- What the parts of the work give.
-use Rattle.std.specs.Prelude.{◌≡◌, ℕ, Bool, true, false, List, ◌++◌, Option, Result, Ok, Err, All, Any}
+use Rattle.std.specs.Prelude.{◌≡◌, ◌<◌, ◌^◌, ℕ, Bool, true, false, length, List, ◌++◌, Option, Result, Ok}
+use Rattle.std.specs.Prelude.{Err, All, Any}
 use Rattle.std.specs.List.{AllZip}
 use Rattle.std.specs.declared.alloc.Global.{Global}
 use Rattle.std.specs.declared.vec.Vec.{Vec}
@@ -55,6 +56,7 @@ IsStepsStop p edge ss other = ⊥
 pub record AreReady (inputs : Inputs) : Type 0 where
   pub valid : IsValid (program_of inputs.drawn.program)
   pub over : All (IsOver inputs.drawn.program.vocab) inputs.initial
+  pub few : length inputs.initial < 2 ^ 32
 
 -- why the files of an analysis mean nothing; `rose` says that the count of the files' faults rose
 abbrev pub IsInputsCause : Option Held → AnalyzedForm → (rose steady : Type 0) → Fault → Type 0

@@ -8,19 +8,19 @@ ghost use Rattle.tv_model.specs.Program.{message_of, program_of};
 ghost use Rattle.tv_trail.specs.Over.{IsTrailOver};
 ghost use Rattle.tv_explain.specs.Answers.{IsMessageText, IsStepText, IsStopped, IsStructureText};
 ghost use Rattle.tv_explain.specs.Answers.{NamesNothing};
-ghost use Rattle.tv_explain.specs.Answers.{TellsOfLosses, trail_lines};
+ghost use Rattle.tv_explain.specs.Answers.{TellsOfLosses, TellsOfWitness, trail_lines};
 ghost use Rattle.tv_explain.specs.Meaning.{drawn_form, heads_in};
-ghost use Rattle.tv_explain.specs.Questions.{IsTold, command_of};
+ghost use Rattle.tv_explain.specs.Questions.{IsTold, command_of, witness_command};
 ghost use Rattle.tv_explain.specs.Work.{AreReady, GoesOnWithSteps, IsStepsStop};
 ghost use Rattle.tv_explain_text.specs.Texts.{messages_at};
 ghost use Rattle.tv_explain_text.specs.Trails.{at_hand_line, raised_line};
 ghost use Rattle.tv_explain_words.specs.Words.{AnalyzedForm, TellsLosses, TellsMessage, TellsStructure};
-ghost use Rattle.tv_explain_words.specs.Words.{TakesStep, TellsCounts, analyzed_of};
+ghost use Rattle.tv_explain_words.specs.Words.{TakesStep, TellsCounts, analyzed_of, bounds_of};
 ghost use Rattle.tv_structure_form.specs.StructureForm.{IsOver};
 
-use crate::fault::{Answer, Fault, Sought, fault_of_work, plain};
+use crate::fault::{Answer, Fault, Sought, fault_of_search, fault_of_work, plain};
 use crate::inputs::Inputs;
-use crate::question::Question;
+use crate::question::{Question, Search};
 use std::alloc::{AllocError, Global};
 use tv_counts::counts_text;
 use tv_explain_text::{Told, append_alarm, messages_at, trail_text};
@@ -31,6 +31,7 @@ use tv_stages::Stager;
 use tv_stages_text::{StageWriter, slow_steps_are_over};
 use tv_struct::Structure;
 use tv_trail::{Raised, trail_to_listed, trail_to_message};
+use tv_witness_text::{Searched, cells_for, explain_witness};
 
 /// The text that no reached structure raises a message.
 fn no_message(alloc: Global) -> Result<Vec<u8>, AllocError>
@@ -257,6 +258,46 @@ fn losses_answer(alloc: Global, inputs: &Inputs, of: &Analyzed) -> Result<Answer
     }
 }
 
+/// What is told of the message of this number among those of the edge's action: a witness, or that there is
+/// none.
+fn witness_answer(
+    alloc: Global,
+    inputs: &Inputs,
+    of: &Analyzed,
+    search: &Search,
+) -> Result<Answer, Fault>
+    requires { AreReady inputs.now }
+    ensures found { IfOk result (TellsOfWitness (analyzed_of of.now) inputs.now search.now.edge
+        search.now.number (bounds_of search.now.bounds)) }
+    ensures cause { IfErr result (IsStopped (witness_command (analyzed_of of.now) search.now)
+        (analyzed_of of.now) inputs.now) }
+{
+    let Search {
+        edge,
+        number,
+        bounds,
+    } = *search;
+    let message = match message_at(inputs, edge, number) {
+        Ok(message) => message,
+        Err(what) => return Err(Fault::NotThere(what)),
+    };
+    let searched = Searched {
+        program: &inputs.drawn.program,
+        heads: &inputs.drawn.heads,
+        initial: &inputs.initial,
+        mode: of.mode,
+        cells: cells_for(bounds.cells, inputs.initial.as_slice()),
+        most: u64::from(bounds.states),
+    };
+    match explain_witness(alloc, &searched, edge, number, message) {
+        Err(error) => Err(fault_of_search(error, bounds.states)),
+        Ok(report) => Ok(Answer {
+            text: report.text,
+            is_lost: report.is_found,
+        }),
+    }
+}
+
 /// The answer to the question, where the files mean these inputs.
 pub fn answer(
     alloc: Global,
@@ -277,5 +318,6 @@ pub fn answer(
         Question::Losses => losses_answer(alloc, inputs, of),
         Question::Step { edge } => plain(step_answer(alloc, inputs, of, edge)),
         Question::Counts => plain(counts_answer(alloc, inputs, of)),
+        Question::Witness(search) => witness_answer(alloc, inputs, of, &search),
     }
 }

@@ -5,10 +5,12 @@ ghost use Rattle.tv_outside.specs.Count.{Rose, FailedLast};
 ghost use Rattle.tv_outside.specs.Told.{appended, TookFront};
 ghost use Rattle.tv_status.specs.Delivery.{StopsAtFailure};
 ghost use Rattle.tv_explain.specs.Delivery.{GivesText, IsDelivered, Takes};
-ghost use Rattle.tv_explain.specs.Faults.{absent_text, ending_with, text_of, unwritten_text};
+ghost use Rattle.tv_explain.specs.Faults.{absent_text, ending_with, passed_text, text_of};
+ghost use Rattle.tv_explain.specs.Faults.{unwritten_text};
 
-use crate::fault::{Answer, Ending, Fault, Sought, Unwritten};
-use tv_outside::{Failed, Sink, write_all};
+use crate::fault::{Answer, Ending, Fault, Passed, Sought, Unwritten};
+use itoa::Buffer;
+use tv_outside::{Failed, Sink, write_all, write_parts};
 use tv_status::{Status, Teller, write_line, write_told};
 
 const USAGE: &[u8] =
@@ -22,6 +24,7 @@ const USAGE: &[u8] =
        tvla-explain plan PROGRAM [--recompute | --delta]
        tvla-explain counts PROGRAM INITIAL [--max-structures N] [--recompute | --delta]
        tvla-explain complete PROGRAM STRUCTURES
+       tvla-explain witness PROGRAM INITIAL EDGE NUMBER [--cells K] [--max-states M] [--recompute | --delta]
 ";
 
 /// Gives the text that tells what isn't there to the sink; takes no memory.
@@ -39,6 +42,9 @@ fn write_absent<E: Sink>(err: &mut E, what: Sought) -> Result<(), Failed>
         Sought::Message => write_line(err, Teller::Explainer, b"no such message"),
         Sought::Node => write_line(err, Teller::Explainer, b"no such node"),
         Sought::Structure => write_line(err, Teller::Explainer, b"no such structure"),
+        Sought::Values => {
+            write_line(err, Teller::Explainer, b"an action leaves a predicate free")
+        }
     }
 }
 
@@ -84,6 +90,46 @@ fn write_unwritten<E: Sink>(err: &mut E, why: Unwritten) -> Result<(), Failed>
     }
 }
 
+/// Gives the text that a search among heaps has passed its limit to the sink; takes no memory.
+#[tactic(auto, unfolding(crate::specs::Faults::passed_text))]
+fn write_passed<E: Sink>(err: &mut E, passed: Passed) -> Result<(), Failed>
+    ensures all { OnOk result (E.taken err.new ≡ appended (E.taken err.old) (passed_text passed)) }
+    ensures failed { OnErr result (Rose (E.faults err.old) (E.faults err.new)) }
+    ensures front { OnErr result (TookFront (E.taken err.old) (E.taken err.new) (passed_text passed)) }
+    ensures no_failure { OnOk result (E.failures err.new ≡ E.failures err.old) }
+    ensures failed_last { OnErr result
+        (FailedLast (E.failures err.old) (E.failures err.new) (E.since err.new)) }
+    ensures count { E.faults err.old ≤ E.faults err.new }
+{
+    let mut states = Buffer::new();
+    let mut cells = Buffer::new();
+    if passed.cells == 0 {
+        return write_parts(
+            err,
+            &[
+                b"tvla-explain: more than ",
+                states.format(passed.states).as_bytes(),
+                b" states with ",
+                cells.format(passed.cells).as_bytes(),
+                b" cells\n",
+            ],
+        );
+    }
+    let mut fewer = Buffer::new();
+    write_parts(
+        err,
+        &[
+            b"tvla-explain: more than ",
+            states.format(passed.states).as_bytes(),
+            b" states with ",
+            cells.format(passed.cells).as_bytes(),
+            b" cells; no witness with at most ",
+            fewer.format(passed.cells - 1).as_bytes(),
+            b" cells\n",
+        ],
+    )
+}
+
 /// Gives the text of the ending to the sink; takes no memory.
 fn write_text<E: Sink>(err: &mut E, ending: Ending) -> Result<(), Failed>
     ensures all { OnOk result (E.taken err.new ≡ appended (E.taken err.old) (text_of ending)) }
@@ -99,6 +145,7 @@ fn write_text<E: Sink>(err: &mut E, ending: Ending) -> Result<(), Failed>
         Ending::Lost => write_all(err, b""),
         Ending::Absent(what) => write_absent(err, what),
         Ending::NotWritten(why) => write_unwritten(err, why),
+        Ending::Unsearched(passed) => write_passed(err, passed),
     }
 }
 

@@ -2,13 +2,15 @@
 
 ghost use Rattle.std.specs.Prelude.{◌≡◌};
 ghost use Rattle.tv_explain.specs.Faults.{code_of, ending_of, ending_with, fault_of_text, fault_of_work};
-ghost use Rattle.tv_explain.specs.Faults.{fault_of_completion, fault_of_step, fault_of_writing};
+ghost use Rattle.tv_explain.specs.Faults.{fault_of_completion, fault_of_search, fault_of_step};
+ghost use Rattle.tv_explain.specs.Faults.{fault_of_writing};
 ghost use Rattle.tv_explain.specs.Work.{plain};
 ghost use Rattle.tv_explain.specs.declared.fault.Fault.TheVariants.{Memory};
 
 use std::alloc::AllocError;
 use tv_compiled::CompiledError;
 use tv_complete_text::CompletionError;
+use tv_heap_search::Unanswered;
 use tv_status::{FileKind, Role, Status};
 use tv_struct::StageError;
 use tv_texts::TextFault;
@@ -25,9 +27,20 @@ pub enum Sought {
     Node,
     /// A structure, by its place among those that are listed at the node.
     Structure,
+    /// The values of a predicate that an action leaves free, without which no search among heaps is made.
+    Values,
 }
 
-/// What a command gives: a text, and whether that tells of anything lost, as `losses` alone may do.
+/// How far a search among heaps has come: with so many individuals more than so many heaps were met, or
+/// structures split.
+#[derive(Clone, Copy, Debug, PartialEq, Eq)]
+pub struct Passed {
+    pub cells: u32,
+    pub states: u32,
+}
+
+/// What a command gives: a text, and whether that tells of anything lost, as `losses` alone may do, or of a
+/// witness.
 #[derive(Debug, Drop)]
 pub struct Answer {
     pub text: Vec<u8>,
@@ -75,6 +88,8 @@ pub enum Fault {
     NotThere(Sought),
     /// A compiled program or a completed file isn't written.
     NotWritten(Unwritten),
+    /// A search among heaps has passed its limit.
+    Heaps(Passed),
     /// A file could not be read.
     ReadFault,
     /// Memory ran out.
@@ -86,12 +101,14 @@ pub enum Fault {
 pub enum Ending {
     /// As a call of `tvla` with this status.
     As(Status),
-    /// As done, but what was given tells of a loss.
+    /// As done, but what was given tells of a loss, or of a witness.
     Lost,
     /// What the words name isn't there.
     Absent(Sought),
     /// A compiled program or a completed file isn't written.
     NotWritten(Unwritten),
+    /// A search among heaps has passed its limit.
+    Unsearched(Passed),
 }
 
 impl Ending {
@@ -106,8 +123,9 @@ impl Ending {
         }
     }
 
-    /// The exit code of the process: that of `tvla`'s status; 1 where something is lost, 2 where the words
-    /// name what isn't there, 4 where a text isn't written.
+    /// The exit code of the process: that of `tvla`'s status; 1 where something is lost or a witness is
+    /// found, 2 where the words name what isn't there, 4 where a text isn't written or a search has passed
+    /// its limit.
     pub fn code(&self) -> u8
         ensures { result ≡ code_of self.now }
     {
@@ -116,6 +134,7 @@ impl Ending {
             Ending::Lost => 1,
             Ending::Absent(_) => 2,
             Ending::NotWritten(_) => 4,
+            Ending::Unsearched(_) => 4,
         }
     }
 }
@@ -132,6 +151,7 @@ impl From<Fault> for Ending {
             Fault::TooManyIndividuals => Ending::As(Status::TooManyIndividuals),
             Fault::NotThere(what) => Ending::Absent(what),
             Fault::NotWritten(why) => Ending::NotWritten(why),
+            Fault::Heaps(passed) => Ending::Unsearched(passed),
             Fault::ReadFault => Ending::As(Status::ReadFault),
             Fault::Memory => Ending::As(Status::Memory),
         }
@@ -155,6 +175,17 @@ pub fn fault_of_work(error: WorkError, max: u64) -> Fault
         WorkError::Splits => Fault::TooManySplits,
         WorkError::Individuals => Fault::TooManyIndividuals,
         WorkError::Memory => Fault::Memory,
+    }
+}
+
+/// The fault of a search that may meet so many heaps of each number of individuals.
+pub fn fault_of_search(error: Unanswered, states: u32) -> Fault
+    ensures { result ≡ fault_of_search states error }
+{
+    match error {
+        Unanswered::Free => Fault::NotThere(Sought::Values),
+        Unanswered::TooMany(cells) => Fault::Heaps(Passed { cells, states }),
+        Unanswered::Memory => Fault::Memory,
     }
 }
 

@@ -5,10 +5,8 @@ ghost use Rattle.std.specs.Prelude.{◌≡◌, ◌≤◌};
 ghost use Rattle.tv_outside.specs.Count.{Rose};
 ghost use Rattle.tv_explain.specs.Begins.{BeginsFor, BeginsNoMore, OnAnswer};
 ghost use Rattle.tv_explain.specs.Call.{Commands, IsEnded, HoldsOperands, UnlessFault};
-ghost use Rattle.tv_explain.specs.Due.{EndsAsOwed, MayStand};
-ghost use Rattle.tv_explain.specs.declared.fault.Ending.TheVariants.{As};
+ghost use Rattle.tv_explain.specs.Due.{EndsAsOwed, MayStand, StandsAnyway};
 ghost use Rattle.tv_explain_words.specs.Words.{SpellsNothing};
-ghost use Rattle.tv_status.specs.declared.status.Status.TheVariants.{Memory};
 ghost use Rattle.tv_status.specs.Delivery.{StopsAtFailure};
 ghost use Rattle.tv_words.specs.Words.{words_of};
 
@@ -21,7 +19,7 @@ mod question;
 mod views;
 mod work;
 
-pub use fault::{Ending, Sought, Unwritten};
+pub use fault::{Ending, Passed, Sought, Unwritten};
 pub use laws::{edges_are_kept, silence_is_no_line};
 use std::alloc::Global;
 use tv_explain_words::one_command;
@@ -34,9 +32,10 @@ use tv_texts::one_meaning_each;
 ///
 /// The work is done in this order: the words are read; PROGRAM is gathered and understood, or for `compiled`
 /// SOURCE is read and compiled; for `show` REPORT is read and understood, for `message`, `structure`,
-/// `losses` and `counts` INITIAL, for `step` and `complete` STRUCTURES; what the words name is looked for,
-/// and the analysis or the steps run; the text is put together and given to `out` whole. The first fault ends
-/// the call, and its text is given to `err`. Where the text tells of a loss the call ends as `Lost`.
+/// `losses`, `counts` and `witness` INITIAL, for `step` and `complete` STRUCTURES; what the words name is
+/// looked for, and the analysis or the steps run; the text is put together and given to `out` whole. The
+/// first fault ends the call, and its text is given to `err`. Where the text tells of a loss or a witness the
+/// call ends as `Lost`.
 pub fn explain<F: Files, O: Sink, E: Sink>(
     alloc: Global,
     words: &[String],
@@ -72,14 +71,14 @@ pub fn explain<F: Files, O: Sink, E: Sink>(
     ensures out_count { O.faults out.old ≤ O.faults out.new }
     ensures err_count { E.faults err.old ≤ E.faults err.new }
 
-    // Each ending comes wherever it is called for, unless a call outside failed or memory ran out; where no
-    // count of faults rose, unless memory ran out. Where over N structures are reached, `message` may have
-    // found its chain before.
+    // Each ending comes wherever it is called for, unless a call outside failed, memory ran out, or a search
+    // among heaps passed its limit; where no count of faults rose, unless one of the latter. Where over N
+    // structures are reached, `message` may have found its chain before.
     ensures exact { EndsAsOwed (words_of words.now) (F.holds files.old) result (MayStand result) }
     ensures complete { (¬ Rose (F.faults files.old) (F.faults files.new))
         → (¬ Rose (O.faults out.old) (O.faults out.new))
         → (¬ Rose (E.faults err.old) (E.faults err.new))
-        → EndsAsOwed (words_of words.now) (F.holds files.old) result (result ≡ As Memory) }
+        → EndsAsOwed (words_of words.now) (F.holds files.old) result (StandsAnyway result) }
 {
     one_command();
     one_meaning_each();

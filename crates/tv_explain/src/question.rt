@@ -1,5 +1,15 @@
 //! What is asked of an analysis, or of its initial structures.
 
+use tv_explain_words::Bounds;
+
+/// A message, by its number among those of the edge's action, and how far heaps are searched for it.
+#[derive(Clone, Copy)]
+pub struct Search {
+    pub edge: u32,
+    pub number: u32,
+    pub bounds: Bounds,
+}
+
 /// A question on the files of an analysis.
 #[derive(Clone, Copy)]
 pub enum Question<'a> {
@@ -13,4 +23,7 @@ pub enum Question<'a> {
     Step { edge: u32 },
     /// How many structures are listed at each node.
     Counts,
+    /// Whether the message of this number among those of the edge's action is true in a run of few small
+    /// heaps.
+    Witness(Search),
 }

@@ -13,7 +13,7 @@ ghost use Rattle.tv_words.specs.Words.{words_of};
 use crate::answers::answer;
 use crate::fault::{Answer, Fault, plain};
 use crate::inputs::{load_drawn, load_inputs};
-use crate::question::Question;
+use crate::question::{Question, Search};
 use crate::views::{complete, plan};
 use std::alloc::Global;
 use tv_compiled::compiled_text;
@@ -150,6 +150,19 @@ fn execute<F: Files>(alloc: Global, files: &mut F, command: &Command) -> Result<
             delta,
         } => plain(plan(alloc, files, program, *mode, *delta)),
         Command::Counts { of } => ask(alloc, files, of, &Question::Counts),
+        Command::Witness {
+            of,
+            edge,
+            number,
+            bounds,
+        } => {
+            let search = Search {
+                edge: *edge,
+                number: *number,
+                bounds: *bounds,
+            };
+            ask(alloc, files, of, &Question::Witness(search))
+        }
         Command::Complete {
             program,
             structures,

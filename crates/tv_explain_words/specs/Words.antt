@@ -1,13 +1,20 @@
 -- What the words of a call spell.
-use Rattle.std.specs.Prelude.{◌≡◌, ◌<◌, ◌^◌, ℕ, Bool, false, List, [], ◌∷◌, codes, decimal}
+use Rattle.std.specs.Prelude.{◌≡◌, ◌<◌, ◌≤◌, ◌^◌, ℕ, Bool, false, List, [], ◌∷◌, Option, None, Some}
+use Rattle.std.specs.Prelude.{codes, decimal, ⊤}
 use Rattle.std.specs.Prelude.{string_bytes}
 use Rattle.tv_model.specs.declared.program.Mode.{Mode}
 use Rattle.tv_model.specs.declared.program.Mode.TheVariants.{Given}
-use Rattle.tv_words.specs.Words.{HasFlags, IsMax, LineForm, StandsOn}
+use Rattle.clap.specs.declared.parser.matches.ArgMatches.{ArgMatches}
+use Rattle.tv_words.specs.Line.{Part, IsLine, values_of}
+use Rattle.tv_words.specs.Setup.{line_in, texts_in, told_line, told_texts}
+use Rattle.tv_words.specs.Words.{HasFlags, IsMax, LineForm, line_flags, line_of}
+use Rattle.tv_explain_words.specs.declared.asked.AskedLine.{AskedLine}
 use Rattle.tv_explain_words.specs.declared.words.Analyzed.{Analyzed}
+use Rattle.tv_explain_words.specs.declared.words.Bounds.{Bounds}
 use Rattle.tv_explain_words.specs.declared.words.Command.{Command}
 use Rattle.tv_explain_words.specs.declared.words.Command.TheVariants.{Show, Edges, Message, Structure, Losses}
 use Rattle.tv_explain_words.specs.declared.words.Command.TheVariants.{Compiled, Step, Plan, Counts, Complete}
+use Rattle.tv_explain_words.specs.declared.words.Command.TheVariants.{Witness}
 
 -- what an analysis is asked, its files named by bytes: as for `tvla analyze`
 pub record AnalyzedForm : Type 0 where
@@ -26,6 +33,14 @@ analyzed_of a = record {
   delta = a.delta;
 }
 
+-- how many individuals a heap may have, if the words say so, and how many heaps may be met
+pub record BoundsForm : Type 0 where
+  pub cells : Option ℕ
+  pub states : ℕ
+
+abbrev pub bounds_of : Bounds → BoundsForm
+bounds_of b = record { cells = b.cells; states = b.states }
+
 -- a command, its files and nodes named by bytes
 pub data CommandForm : Type 0 where
   Shows : (program report : List ℕ) → CommandForm
@@ -38,6 +53,7 @@ pub data CommandForm : Type 0 where
   TellsPlan : (program : List ℕ) → (mode : Mode) → (delta : Bool) → CommandForm
   TellsCounts : (of : AnalyzedForm) → CommandForm
   Completes : (program structures : List ℕ) → CommandForm
+  TellsWitness : (of : AnalyzedForm) → (edge number : ℕ) → (bounds : BoundsForm) → CommandForm
 
 abbrev pub form_of : Command → CommandForm
 form_of (Show program report) = Shows (string_bytes program) (string_bytes report)
@@ -50,6 +66,7 @@ form_of (Step of edge) = TakesStep (analyzed_of of) edge
 form_of (Plan program mode delta) = TellsPlan (string_bytes program) mode delta
 form_of (Counts of) = TellsCounts (analyzed_of of)
 form_of (Complete program structures) = Completes (string_bytes program) (string_bytes structures)
+form_of (Witness of edge number bounds) = TellsWitness (analyzed_of of) edge number (bounds_of bounds)
 
 -- this is said of the command
 abbrev pub SaidOf : (CommandForm → Type 0) → Command → Type 0
@@ -67,6 +84,7 @@ command_word (TakesStep of edge) = codes "step"
 command_word (TellsPlan program mode delta) = codes "plan"
 command_word (TellsCounts of) = codes "counts"
 command_word (Completes program structures) = codes "complete"
+command_word (TellsWitness of edge number bounds) = codes "witness"
 
 -- the word is this number, without sign or leading zero
 abbrev pub IsNumber : (word : List ℕ) → (number : ℕ) → Type 0
@@ -98,12 +116,93 @@ Says line (TellsPlan program mode delta) = (line.operands ≡ program ∷ []) ×
     × (line.max ≡ [])
 Says line (TellsCounts of) = (line.operands ≡ of.program ∷ of.initial ∷ []) × HasOptions line of
 Says line (Completes program structures) = (line.operands ≡ program ∷ structures ∷ []) × IsPlain line
+Says line (TellsWitness of edge number bounds) = (e n : List ℕ)
+    × (line.operands ≡ of.program ∷ of.initial ∷ e ∷ n ∷ []) × HasOptions line of × (line.max ≡ [])
+    × IsNumber e edge × IsNumber n number
+
+-- ---- lines with the options of searches among heaps
+
+-- the options with values
+abbrev pub asked_settings : List (List ℕ)
+asked_settings = codes "max-structures" ∷ codes "cells" ∷ codes "max-states" ∷ []
+
+-- what stands on a line: what any command may have, and the values of `--cells` and `--max-states`
+pub record AskedForm : Type 0 where
+  pub line : LineForm
+  pub cells : List (List ℕ)
+  pub states : List (List ℕ)
+
+-- what the parts say, and the operands behind `--`
+abbrev pub asked_of : List Part → (behind : List (List ℕ)) → AskedForm
+asked_of parts behind = record {
+  line = line_of parts behind;
+  cells = values_of (codes "cells") parts;
+  states = values_of (codes "max-states") parts;
+}
+
+-- the same as `clap` tells it
+abbrev pub told_asked : ArgMatches → AskedForm
+told_asked matches = record {
+  line = told_line matches;
+  cells = texts_in matches (codes "cells");
+  states = texts_in matches (codes "max-states");
+}
+
+-- the line's texts by their bytes
+abbrev pub asked_in : AskedLine → AskedForm
+asked_in asked = record {
+  line = line_in asked.line;
+  cells = told_texts asked.cells;
+  states = told_texts asked.states;
+}
+
+-- this stands on the words
+pub record IsAskedOn (words : List (List ℕ)) (asked : AskedForm) : Type 0 where
+  pub parts : List Part
+  pub behind : List (List ℕ)
+  pub spelled : IsLine line_flags asked_settings parts behind words
+  pub is : asked ≡ asked_of parts behind
+
+-- how many individuals a heap may have, where `--cells` has these values: at most 255
+abbrev pub IsCells : (values : List (List ℕ)) → (cells : Option ℕ) → Type 0
+IsCells [] None = ⊤
+IsCells [] (Some cells) = ⊥
+IsCells (value ∷ []) None = ⊥
+IsCells (value ∷ []) (Some cells) = IsNumber value cells × (cells ≤ 255)
+IsCells (first ∷ second ∷ rest) cells = ⊥
+
+-- how many heaps may be met, where `--max-states` has these values
+abbrev pub IsStates : (values : List (List ℕ)) → (states : ℕ) → Type 0
+IsStates [] states = states ≡ 1000000
+IsStates (value ∷ []) states = IsNumber value states
+IsStates (first ∷ second ∷ rest) states = ⊥
+
+-- both options say this
+abbrev pub HasBounds : AskedForm → BoundsForm → Type 0
+HasBounds asked bounds = IsCells asked.cells bounds.cells × IsStates asked.states bounds.states
+
+-- `witness` may have both options, no other command has one
+abbrev pub SaysBounds : AskedForm → CommandForm → Type 0
+SaysBounds asked (TellsWitness of edge number bounds) = HasBounds asked bounds
+SaysBounds asked other = (asked.cells ≡ []) × (asked.states ≡ [])
+
+-- a line says a command
+abbrev pub Asks : AskedForm → CommandForm → Type 0
+Asks asked command = Says asked.line command × SaysBounds asked command
+
+-- the line says this command, which has the name
+abbrev pub IsAskedBy : (name : List ℕ) → AskedForm → CommandForm → Type 0
+IsAskedBy name asked command = (command_word command ≡ name) × Asks asked command
+
+-- it says no command of that name
+abbrev pub NoneAskedBy : (name : List ℕ) → AskedForm → Type 0
+NoneAskedBy name asked = (command : CommandForm) → ¬ IsAskedBy name asked command
 
 -- a line that stands on the words says the command
 pub record IsRest (words : List (List ℕ)) (command : CommandForm) : Type 0 where
-  pub line : LineForm
-  pub stands : StandsOn words line
-  pub says : Says line command
+  pub asked : AskedForm
+  pub stands : IsAskedOn words asked
+  pub says : Asks asked command
 
 -- the words spell this command: its name, and the rest behind it
 abbrev pub Spells : List (List ℕ) → CommandForm → Type 0

@@ -1,8 +1,9 @@
 //! The words of a call that asks for an explanation.
 #![tactic(auto)]
 
+mod asked;
 mod laws;
 mod words;
 
 pub use laws::one_command;
-pub use words::{Analyzed, Command, read_words};
+pub use words::{Analyzed, Bounds, Command, read_words};

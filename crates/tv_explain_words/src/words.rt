@@ -1,18 +1,18 @@
 //! The words after the program's name.
 
-ghost use Rattle.std.specs.Prelude.{◌≡◌, ℕ, List, [], ◌∷◌, IfOk, IfSome, IfNone, codes};
+ghost use Rattle.std.specs.Prelude.{◌≡◌, ℕ, List, [], ◌∷◌, IfOk, IfSome, IfNone, Option, codes};
+ghost use Rattle.tv_explain_words.specs.Words.{BoundsForm, HasBounds, IsAskedBy, IsCells, IsStates};
+ghost use Rattle.tv_explain_words.specs.Words.{NoneAskedBy, asked_in, bounds_of};
 ghost use Rattle.tv_words.specs.Setup.{line_in, told_texts};
 ghost use Rattle.tv_words.specs.Words.{words_of};
 ghost use Rattle.tv_explain_words.specs.Words.{IsNumber, IsSaid, NoneSaid, Spells, SpellsNothing, SaidOf};
 ghost use Rattle.tv_explain_words.specs.Words.{AsksNothing, IsAsked, analyzed_of};
 
+use crate::asked::{AskedLine, asked_command, told_asked};
 use itoa::Buffer;
 use std::alloc::{AllocError, Global};
 use tv_model::Mode;
-use tv_words::{
-    Line, command_line, four, has_no_flags, has_values, max_of, one, read_line, told_line, two,
-    updating,
-};
+use tv_words::{Line, four, has_no_flags, has_values, max_of, one, read_line, two, updating};
 
 /// What an analysis is asked, as for `tvla analyze`: its files by their names, how many structures may be
 /// listed, and the mode; with `delta` the differenced program is taken, and the mode is `Given`.
@@ -79,7 +79,29 @@ pub enum Command {
         program: String,
         structures: String,
     },
+    /// Writes a run of few small heaps to a message, by its number among those of the edge's action. `max` is
+    /// that of words that don't say it.
+    Witness {
+        of: Analyzed,
+        edge: u32,
+        number: u32,
+        bounds: Bounds,
+    },
 }
+
+/// How far witnesses are searched: how many individuals a heap may have, if the words say so, and how many
+/// heaps may be met.
+#[derive(Clone, Copy, Debug, PartialEq, Eq)]
+pub struct Bounds {
+    pub cells: Option<u32>,
+    pub states: u32,
+}
+
+/// How many heaps may be met where the words don't say.
+const DEFAULT_STATES: u32 = 1_000_000;
+
+/// The greatest number of individuals that the words may allow.
+const GREATEST_CELLS: u32 = 255;
 
 /// The number that the word is, without sign or leading zero.
 fn number(word: &str) -> Option<u32>
@@ -317,8 +339,88 @@ fn complete(alloc: Global, line: &Line<'_, '_>) -> Result<Option<Command>, Alloc
     }))
 }
 
-/// The command of that name that the line says.
+/// How many individuals a heap may have, by the values of `--cells`.
+fn cells_of(values: Option<&[&str]>) -> Option<Option<u32>>
+    ensures some { IfSome result (IsCells (told_texts values.entry)) }
+    ensures none { IfNone result ((n : Option ℕ) → ¬ IsCells (told_texts values.entry) n) }
+{
+    match values {
+        None | Some([]) => Some(None),
+        Some([value]) => {
+            let cells = number(value)?;
+            if cells <= GREATEST_CELLS {
+                Some(Some(cells))
+            } else {
+                None
+            }
+        }
+        Some(_) => None,
+    }
+}
+
+/// How many heaps may be met, by the values of `--max-states`.
+fn states_of(values: Option<&[&str]>) -> Option<u32>
+    ensures some { IfSome result (IsStates (told_texts values.entry)) }
+    ensures none { IfNone result ((n : ℕ) → ¬ IsStates (told_texts values.entry) n) }
+{
+    match values {
+        None | Some([]) => Some(DEFAULT_STATES),
+        Some([value]) => number(value),
+        Some(_) => None,
+    }
+}
+
+/// How far witnesses are searched, by the values of both options.
+fn told_bounds(asked: &AskedLine<'_, '_>) -> Option<Bounds>
+    ensures some { IfSome result (λ b. HasBounds (asked_in asked.now) (bounds_of b)) }
+    ensures none { IfNone result ((b : BoundsForm) → ¬ HasBounds (asked_in asked.now) b) }
+{
+    let Some(cells) = cells_of(asked.cells) else {
+        return None;
+    };
+    let Some(states) = states_of(asked.states) else {
+        return None;
+    };
+    Some(Bounds { cells, states })
+}
+
+/// The command of the name `witness` that the line says.
+fn witness(alloc: Global, asked_line: &AskedLine<'_, '_>) -> Result<Option<Command>, AllocError>
+    ensures some { IfOk result (λ found. IfSome found
+        (SaidOf (IsAskedBy (codes "witness") (asked_in asked_line.now)))) }
+    ensures none { IfOk result (λ found. IfNone found
+        (NoneAskedBy (codes "witness") (asked_in asked_line.now))) }
+{
+    let line = &asked_line.line;
+    let Some((program, initial, edge, message)) = four(line.operands) else {
+        return Ok(None);
+    };
+    let Some(edge) = number(edge) else {
+        return Ok(None);
+    };
+    let Some(number) = number(message) else {
+        return Ok(None);
+    };
+    if has_values(asked_line.line.max) {
+        return Ok(None);
+    }
+    let Some(bounds) = told_bounds(asked_line) else {
+        return Ok(None);
+    };
+    let Some(of) = asked(alloc, line, program, initial)? else {
+        return Ok(None);
+    };
+    Ok(Some(Command::Witness {
+        of,
+        edge,
+        number,
+        bounds,
+    }))
+}
+
+/// The command of that name that the line says, if it is none that searches heaps.
 fn said(alloc: Global, name: &str, line: &Line<'_, '_>) -> Result<Option<Command>, AllocError>
+    requires other { ¬ (name.now ≡ codes "witness") }
     ensures some { IfOk result (λ found. IfSome found (SaidOf (IsSaid name.now (line_in line.now)))) }
     ensures none { IfOk result (λ found. IfNone found (NoneSaid name.now (line_in line.now))) }
 {
@@ -337,6 +439,39 @@ fn said(alloc: Global, name: &str, line: &Line<'_, '_>) -> Result<Option<Command
     }
 }
 
+/// The command of that name that the line says, which isn't `witness`.
+fn said_without(
+    alloc: Global,
+    name: &str,
+    asked: &AskedLine<'_, '_>,
+) -> Result<Option<Command>, AllocError>
+    requires other { ¬ (name.now ≡ codes "witness") }
+    ensures some { IfOk result
+        (λ found. IfSome found (SaidOf (IsAskedBy name.now (asked_in asked.now)))) }
+    ensures none { IfOk result (λ found. IfNone found (NoneAskedBy name.now (asked_in asked.now))) }
+{
+    if has_values(asked.cells) || has_values(asked.states) {
+        return Ok(None);
+    }
+    said(alloc, name, &asked.line)
+}
+
+/// The command of that name that the line says.
+fn said_by(
+    alloc: Global,
+    name: &str,
+    asked: &AskedLine<'_, '_>,
+) -> Result<Option<Command>, AllocError>
+    ensures some { IfOk result
+        (λ found. IfSome found (SaidOf (IsAskedBy name.now (asked_in asked.now)))) }
+    ensures none { IfOk result (λ found. IfNone found (NoneAskedBy name.now (asked_in asked.now))) }
+{
+    match name {
+        "witness" => witness(alloc, asked),
+        _ => said_without(alloc, name, asked),
+    }
+}
+
 /// The command that the words spell, and none exactly where they spell none.
 ///
 /// # Errors
@@ -348,8 +483,8 @@ pub fn read_words(alloc: Global, words: &[String]) -> Result<Option<Command>, Al
     let Some((name, behind)) = words.split_first() else {
         return Ok(None);
     };
-    let Some(matches) = read_line(command_line(alloc)?, behind)? else {
+    let Some(matches) = read_line(asked_command(alloc)?, behind)? else {
         return Ok(None);
     };
-    said(alloc, name.as_str(), &told_line(&matches))
+    said_by(alloc, name.as_str(), &told_asked(&matches))
 }

@@ -20,4 +20,6 @@ mod texts;
 #[cfg(test)]
 mod views;
 #[cfg(test)]
+mod witnesses;
+#[cfg(test)]
 mod words;

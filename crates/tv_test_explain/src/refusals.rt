@@ -13,6 +13,7 @@ structure p i L0 0;%p x( %% %%;%n;program: Syntax at 1:7
 losses p i;%p x( %% %%;%n;program: Syntax at 1:7
 step p i 0;%p x( %% %%;%n;program: Syntax at 1:7
 counts p i;%p x( %% %%;%n;program: Syntax at 1:7
+witness p i 0 0;%p x( %% %%;%n;program: Syntax at 1:7
 complete p i;%p x( %% %%;%n;program: Syntax at 1:7
 edges p;%s S T %% %%;;program: NameUnknown
 plan p;%r b() ==> 0 %% %%;;program: NameUnknown
@@ -25,6 +26,7 @@ structure p i L0 0;%p b() %% %action Go() { } %% L0 Go() L1;%n;initial: Syntax a
 losses p i;%p b() %% %action Go() { } %% L0 Go() L1;%n;initial: Syntax at 1:3
 step p i 0;%p b() %% %action Go() { } %% L0 Go() L1;%n;initial: Syntax at 1:3
 counts p i;%p b() %% %action Go() { } %% L0 Go() L1;%n;initial: Syntax at 1:3
+witness p i 0 0;%p b() %% %action Go() { } %% L0 Go() L1;%n;initial: Syntax at 1:3
 complete p i;%p b() %% %action Go() { } %% L0 Go() L1;%n;initial: Syntax at 1:3
 message p i 0 0;%p b() %% %action Go() { } %% L0 Go() L1;%n = {} %p = { c = 1 };initial: NameUnknown
 losses p i;%p b() %% %action Go() { } %% L0 Go() L1;%n = {} %p = { c = 1 };initial: NameUnknown
@@ -48,6 +50,8 @@ step p q 9
 plan q
 counts q i
 counts p q
+witness q i 9 0
+witness p q 9 0
 complete q i
 complete p q";
 

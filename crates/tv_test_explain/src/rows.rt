@@ -7,6 +7,7 @@ use crate::faults::WRITES;
 use crate::losses::LOSSES;
 use crate::texts::{EDGES, PROGRAM, REPORT, SHOWN, USAGE};
 use crate::views::VIEWS;
+use crate::witnesses::WITNESSES;
 use std::test::Fail;
 
 static ROWS: [Row<'static, 'static, 'static, 'static>; 6] = [
@@ -64,7 +65,7 @@ edge 2  main:6  L0 Go ( ) L1
 #[test]
 fn calls_end_as_their_rows_say(rt: HostRuntime) -> Result<(), Fail> {
     let tables: [&[Row<'static, 'static, 'static, 'static>]; 6] = [
-        &ROWS, &CHAINS, &LOSSES, &COMPILED, &VIEWS, &WRITES,
+        &ROWS, &CHAINS, &LOSSES, &COMPILED, &VIEWS, &WITNESSES, &WRITES,
     ];
     for table in tables {
         assert_eq!(rt; first_wrong(rt.alloc(), table)?, None);

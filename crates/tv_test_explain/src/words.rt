@@ -47,7 +47,19 @@ counts p i 0
 counts p i --max-structures=0
 complete p
 complete p i i
-complete p i --delta";
+complete p i --delta
+counts p i --cells 1
+message p i 0 0 --max-states 1
+witness p i 0
+witness p i 0 0 0
+witness p i 0 first
+witness p i 0 0 --max-structures 5
+witness p i 0 0 --delta --recompute
+witness p i 0 0 --cells
+witness p i 0 0 --cells 256
+witness p i 0 0 --cells 01
+witness p i 0 0 --cells 1 --cells 2
+witness p i 0 0 --max-states 4294967296";
 
 /// Words that name what isn't there, and what is told of them.
 const ABSENT: &str = "message p i 4 0;no such edge
@@ -56,7 +68,9 @@ message p i 1 0;no such message
 message p i 3 1;no such message
 structure p i L3 0;no such node
 structure p i L1 1;no such structure
-step p i 4;no such edge";
+step p i 4;no such edge
+witness p i 4 0;no such edge
+witness p i 3 1;no such message";
 
 /// Each file that the words name is there.
 const REFUSED: Row<'static, 'static, 'static, 'static> = Row {

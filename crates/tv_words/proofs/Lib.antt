@@ -1,5 +1,5 @@
 mod Reader
-mod Reading
+pub mod Reading
 mod Rows
 mod Shapes
 mod Uses

@@ -48,3 +48,9 @@ returns-in-Counts-clause-told c = rw (c.in-Counts.is, c.plain-in-Counts.ensures)
 pub returns-in-Counts-clause-cause : goal.returns-in-Counts-clause-cause
 returns-in-Counts-clause-cause c =
     rw (c.in-Counts.is, c.plain-in-Counts.ensures) (plain_cause _ c.counts_answer.result c.counts_answer.ensures.cause)
+
+pub returns-in-Witness-clause-told : goal.returns-in-Witness-clause-told
+returns-in-Witness-clause-told c = rw c.in-Witness.is c.witness_answer.ensures.found
+
+pub returns-in-Witness-clause-cause : goal.returns-in-Witness-clause-cause
+returns-in-Witness-clause-cause c = rw c.in-Witness.is c.witness_answer.ensures.cause

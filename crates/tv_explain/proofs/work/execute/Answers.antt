@@ -91,3 +91,9 @@ returns-in-Counts-clause-found g c = rw c.in-Counts.is c.ask-in-Counts.ensures.f
 
 pub returns-in-Counts-clause-cause : goal.returns-in-Counts-clause-cause
 returns-in-Counts-clause-cause g c = rw c.in-Counts.is c.ask-in-Counts.ensures.cause
+
+pub returns-in-Witness-clause-found : goal.returns-in-Witness-clause-found
+returns-in-Witness-clause-found g c = rw c.in-Witness.is c.ask-in-Witness.ensures.found
+
+pub returns-in-Witness-clause-cause : goal.returns-in-Witness-clause-cause
+returns-in-Witness-clause-cause g c = rw c.in-Witness.is c.ask-in-Witness.ensures.cause

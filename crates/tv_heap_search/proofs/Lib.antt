@@ -1,0 +1,10 @@
+pub mod Growing
+pub mod Known
+pub mod Keeping
+pub mod Levelling
+pub mod Retracing
+pub mod Asking
+pub mod Marks
+pub mod Meeting
+pub mod Turning
+pub mod Witnessing

@@ -1,0 +1,3 @@
+mod Over
+mod Legs
+mod Asked

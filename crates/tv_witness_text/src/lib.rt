@@ -1,0 +1,10 @@
+//! Texts of witnesses: runs of heaps, each heap in one line.
+#![tactic(auto)]
+
+mod answer;
+mod cells;
+mod runs;
+
+pub use answer::{Searched, WitnessReport, explain_witness};
+pub use cells::cells_for;
+pub use runs::{Sentence, no_witness_text, witness_text};
