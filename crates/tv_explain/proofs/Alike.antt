@@ -55,7 +55,7 @@ AreRead told (TakesStep of edge) = (inputs : Inputs) × FilesMean told of inputs
 AreRead told (TellsPlan program mode delta) = (p : Program) × IsProgramFile told program (Ok p)
 AreRead told (TellsCounts of) = (inputs : Inputs) × FilesMean told of inputs
 AreRead told (Completes program structures) = AreReadTogether told program structures
-AreRead told (TellsWitness of edge number bounds) = (inputs : Inputs) × FilesMean told of inputs
+AreRead told (TellsWitness of aim bounds) = (inputs : Inputs) × FilesMean told of inputs
 
 module _ (told : Option Held) where
   -- the program that was read, and what is taken of it
@@ -129,7 +129,7 @@ module _ (told : Option Held)
         let same : SameProgram h.0 refused.0 = programs program (Ok h.0) (Ok refused.0) h.1 refused.1 in
         initials structures h.0 refused.0 same (Ok h.2.0) (Err k) h.2.1 refused.2
     not_refused (Completes program structures) other k h refused = refused
-    not_refused (TellsWitness of edge number bounds) r k h refused = analysis_read of r k h.0 h.1 refused
+    not_refused (TellsWitness of aim bounds) r k h refused = analysis_read of r k h.0 h.1 refused
 
     one_analysis_refusal : (of : AnalyzedForm) (r s : Role) (k l : FileKind) → IsNoAnalysis told of r k
         → IsNoAnalysis told of s l → (r ≡ s) × (placeless k ≡ placeless l)
@@ -190,4 +190,4 @@ module _ (told : Option Held)
     one_refusal (Completes program structures) role.Program other k l h j = absurd j
     one_refusal (Completes program structures) role.Initial other k l h j = absurd j
     one_refusal (Completes program structures) other s k l h j = absurd h
-    one_refusal (TellsWitness of edge number bounds) r s k l h j = one_analysis_refusal of r s k l h j
+    one_refusal (TellsWitness of aim bounds) r s k l h j = one_analysis_refusal of r s k l h j

@@ -81,6 +81,8 @@ use Rattle.tv_texts.specs.declared.structures.StructuresText.{StructuresText}
 use Rattle.tv_explain_text.specs.Texts.{action_messages, messages_at}
 use Rattle.tv_explain_words.specs.Words.{AnalyzedForm, CommandForm, Shows, ListsEdges, TellsMessage}
 use Rattle.tv_explain_words.specs.Words.{TellsStructure, TellsLosses, Compiles, TakesStep, TellsPlan}
+use Rattle.tv_explain_words.specs.declared.words.Aim.{Aim}
+use Rattle.tv_explain_words.specs.declared.words.Piece.{Piece}
 use Rattle.tv_explain_words.specs.Words.{BoundsForm, TellsCounts, Completes, TellsWitness, Spells, SpellsNothing}
 
 -- ---- views of endings
@@ -130,7 +132,7 @@ module _ (told : Option Held) where
   such_read (TellsLosses of) P h = (h.0, h.1)
   such_read (TakesStep of edge) P h = (h.0, h.1)
   such_read (TellsCounts of) P h = (h.0, h.1)
-  such_read (TellsWitness of edge number bounds) P h = (h.0, h.1)
+  such_read (TellsWitness of aim bounds) P h = (h.0, h.1)
   such_read other P h = absurd h
 
   such_also : (command : CommandForm) (P Q : AnalyzedForm → Inputs → Type 0)
@@ -141,7 +143,7 @@ module _ (told : Option Held) where
   such_also (TellsLosses of) P Q f h = (h.0, h.1, f of h.0 h.2)
   such_also (TakesStep of edge) P Q f h = (h.0, h.1, f of h.0 h.2)
   such_also (TellsCounts of) P Q f h = (h.0, h.1, f of h.0 h.2)
-  such_also (TellsWitness of edge number bounds) P Q f h = (h.0, h.1, f of h.0 h.2)
+  such_also (TellsWitness of aim bounds) P Q f h = (h.0, h.1, f of h.0 h.2)
   such_also other P Q f h = absurd h
 
 -- structures that are read are those of the file
@@ -174,7 +176,7 @@ module _ (told : Option Held)
         let x = read_of told delta program h.0.0 h.0.1 in (x.0, x.1)
     answer_read (TellsCounts of) a h = (h.0.0, h.0.1)
     answer_read (Completes program structures) a h = structures_read told program structures _ h.0
-    answer_read (TellsWitness of edge number bounds) a h = (h.0, h.1)
+    answer_read (TellsWitness of aim bounds) a h = (h.0, h.1)
 
     done_read : (command : CommandForm) → CanAnswer told command → AreRead told command
     done_read (Shows program report) h = h
@@ -187,18 +189,18 @@ module _ (told : Option Held)
     done_read (TellsPlan program mode delta) h = h
     done_read (TellsCounts of) h = (h.0, h.1)
     done_read (Completes program structures) h = h.0
-    done_read (TellsWitness of edge number bounds) h = (h.0, h.1)
+    done_read (TellsWitness of aim bounds) h = (h.0, h.1)
 
     some_read : (command : CommandForm) → LosesSome told command → AreRead told command
     some_read (TellsLosses of) h = (h.0, h.1)
-    some_read (TellsWitness of edge number bounds) h = (h.0, h.1)
+    some_read (TellsWitness of aim bounds) h = (h.0, h.1)
     some_read other h = absurd h
 
     absent_read : (command : CommandForm) (what : Sought) → IsAbsent told command what → AreRead told command
     absent_read (TellsMessage of edge number) what h = (h.0, h.1)
     absent_read (TellsStructure of node index) what h = (h.0, h.1)
     absent_read (TakesStep of edge) what h = (h.0, h.1)
-    absent_read (TellsWitness of edge number bounds) what h = (h.0, h.1)
+    absent_read (TellsWitness of aim bounds) what h = (h.0, h.1)
     absent_read other what h = absurd h
 
     unwritten_read : (command : CommandForm) (why : Unwritten) → IsUnwritten told command why
@@ -312,17 +314,19 @@ grown q cells few start stages is =
 
 -- what a report says of the question
 report_none : (q : Question) (found : Option Fewest) (task : Task) (edge number : ℕ) (text : List ℕ)
-    (report : WitnessReport) → AnswersFewest q found → TellsAnswer task edge number text found report
+    (piece : Piece) (report : WitnessReport) → AnswersFewest q found
+    → TellsAnswer task edge number text piece found report
     → (¬ HasWitness q) → report.is_found ≡ false
-report_none q None task edge number text report answers tells none = tells.1
-report_none q (Some found) task edge number text report answers tells none =
+report_none q None task edge number text piece report answers tells none = tells.1
+report_none q (Some found) task edge number text piece report answers tells none =
     absurd (none (grown q found.cells answers.0 answers.1.from answers.1.stages answers.1.is))
 
 report_some : (q : Question) (found : Option Fewest) (task : Task) (edge number : ℕ) (text : List ℕ)
-    (report : WitnessReport) → AnswersFewest q found → TellsAnswer task edge number text found report
+    (piece : Piece) (report : WitnessReport) → AnswersFewest q found
+    → TellsAnswer task edge number text piece found report
     → HasWitness q → report.is_found ≡ true
-report_some q None task edge number text report answers tells some = absurd (answers some)
-report_some q (Some found) task edge number text report answers tells some = tells.1
+report_some q None task edge number text piece report answers tells some = absurd (answers some)
+report_some q (Some found) task edge number text piece report answers tells some = tells.1
 
 edge_there : (p : ProgramForm) (edge : ℕ) (what : Sought) → edge < length p.edges → LacksEdge p edge what → ⊥
 edge_there p edge sought.Edge has lacks = not_both edge (length p.edges) has lacks
@@ -363,11 +367,11 @@ kept_each of asked edge b keeps (inr (inr any)) =
     (All-contains (KeepsBudgets (drawn_form b) edge) b.initial any.1 keeps (any.0, any.2, any.3)).individuals any.4
 
 -- a search among heaps has no limit of an analysis
-kept_heaps : (of asked : AnalyzedForm) (edge number : ℕ) (bounds : BoundsForm) (b : Inputs)
-    → PassesLimit (TellsWitness asked edge number bounds) of b → ⊥
-kept_heaps of asked edge number bounds b (inl many) = many
-kept_heaps of asked edge number bounds b (inr (inl meets)) = meets
-kept_heaps of asked edge number bounds b (inr (inr meets)) = meets
+kept_heaps : (of asked : AnalyzedForm) (aim : Aim) (bounds : BoundsForm) (b : Inputs)
+    → PassesLimit (TellsWitness asked aim bounds) of b → ⊥
+kept_heaps of asked aim bounds b (inl many) = many
+kept_heaps of asked aim bounds b (inr (inl meets)) = meets
+kept_heaps of asked aim bounds b (inr (inr meets)) = meets
 
 -- a step along an edge meets a budget only where there is the edge
 edge_met : (of asked : AnalyzedForm) (edge : ℕ) (b : Inputs) → PassesLimit (TakesStep asked edge) of b
@@ -521,12 +525,13 @@ module _ (told : Option Held)
     done_answer (TellsPlan program mode delta) a h can = h.1
     done_answer (TellsCounts of) a h can = h.1
     done_answer (Completes program structures) a h can = h.1
-    done_answer (TellsWitness of edge number bounds) a h can =
+    done_answer (TellsWitness of aim bounds) a h can =
         let same = same_inputs of can.0 h.0 can.1 h.1 in
-        let such = searches of can.0 h.0 same edge number bounds (λ q. ¬ HasWitness q) can.2 in
+        let such = searches of can.0 h.0 same aim.edge aim.number bounds (λ q. ¬ HasWitness q) can.2 in
         let report = h.2.3 in
         report_none (question_along (witness_task of h.0 bounds) report.0 h.2.0) report.2.0
-        (witness_task of h.0 bounds) edge number h.2.0.text (record { text = a.text; is_found = a.is_lost })
+        (witness_task of h.0 bounds) aim.edge aim.number h.2.0.text aim.piece
+        (record { text = a.text; is_found = a.is_lost })
         report.2.1 report.2.2 (such.3 report.0 h.2.0 report.1 h.2.1)
 
     lost_answer : (command : CommandForm) (a : Answer) → IsAnswer told command a → LosesSome told command
@@ -535,12 +540,13 @@ module _ (told : Option Held)
         let same = same_inputs of some.0 h.0 some.1 h.1 in
         let such = loses of some.0 h.0 same (λ losses. ¬ AreNone losses) some.3 h.2.losses h.2.are in
         lost_some a.is_lost (AreNone h.2.losses) h.2.any such
-    lost_answer (TellsWitness of edge number bounds) a h some =
+    lost_answer (TellsWitness of aim bounds) a h some =
         let same = same_inputs of some.0 h.0 some.1 h.1 in
-        let such = searches of some.0 h.0 same edge number bounds HasWitness some.2 in
+        let such = searches of some.0 h.0 same aim.edge aim.number bounds HasWitness some.2 in
         let report = h.2.3 in
         report_some (question_along (witness_task of h.0 bounds) report.0 h.2.0) report.2.0
-        (witness_task of h.0 bounds) edge number h.2.0.text (record { text = a.text; is_found = a.is_lost })
+        (witness_task of h.0 bounds) aim.edge aim.number h.2.0.text aim.piece
+        (record { text = a.text; is_found = a.is_lost })
         report.2.1 report.2.2 (such.3 report.0 h.2.0 report.1 h.2.1)
     lost_answer other a h some = absurd some
 
@@ -567,9 +573,9 @@ module _ (told : Option Held)
     answer_there (TakesStep of edge) a what h lacks =
         edge_there (drawn_form h.0.0) edge what h.0.2.within
         (lacks_edge of lacks.0 h.0.0 (same_inputs of lacks.0 h.0.0 lacks.1 h.0.1) edge what lacks.2)
-    answer_there (TellsWitness of edge number bounds) a what h lacks =
-        search_there (drawn_form h.0) edge number h.2.0 what h.2.1 h.2.2
-        (lacks_search of lacks.0 h.0 (same_inputs of lacks.0 h.0 lacks.1 h.1) edge number what lacks.2)
+    answer_there (TellsWitness of aim bounds) a what h lacks =
+        search_there (drawn_form h.0) aim.edge aim.number h.2.0 what h.2.1 h.2.2
+        (lacks_search of lacks.0 h.0 (same_inputs of lacks.0 h.0 lacks.1 h.1) aim.edge aim.number what lacks.2)
     answer_there other a what h lacks = lacks
 
     answer_written : (command : CommandForm) (a : Answer) (why : Unwritten) → IsAnswer told command a
@@ -611,7 +617,7 @@ module _ (told : Option Held)
         (as_said of (λ p i. All (KeepsBudgets p edge) i) keeps.0 h.0 keeps.1 h.1 keeps.2) h.2
     within_limits (TellsCounts of) h keeps = kept_reached of of h.0
         (as_said of (λ p i. KeepAllBudgets p (IsReached p of.mode i)) keeps.0 h.0 keeps.1 h.1 keeps.2) h.2
-    within_limits (TellsWitness of edge number bounds) h keeps = kept_heaps of of edge number bounds h.0 h.2
+    within_limits (TellsWitness of aim bounds) h keeps = kept_heaps of of aim bounds h.0 h.2
     within_limits other h keeps = h
 
     done_within : (command : CommandForm) → Stops told command → CanAnswer told command → ⊥
@@ -622,12 +628,12 @@ module _ (told : Option Held)
     done_within (TellsLosses of) h can = within_limits (TellsLosses of) h (can.0, can.1, can.2)
     done_within (TakesStep of edge) h can = within_limits (TakesStep of edge) h (can.0, can.1, can.2)
     done_within (TellsCounts of) h can = within_limits (TellsCounts of) h (can.0, can.1, can.2)
-    done_within (TellsWitness of edge number bounds) h can = kept_heaps of of edge number bounds h.0 h.2
+    done_within (TellsWitness of aim bounds) h can = kept_heaps of of aim bounds h.0 h.2
     done_within other h can = h
 
     some_within : (command : CommandForm) → Stops told command → LosesSome told command → ⊥
     some_within (TellsLosses of) h some = within_limits (TellsLosses of) h (some.0, some.1, some.2)
-    some_within (TellsWitness of edge number bounds) h some = kept_heaps of of edge number bounds h.0 h.2
+    some_within (TellsWitness of aim bounds) h some = kept_heaps of of aim bounds h.0 h.2
     some_within other h some = some
 
     stops_there : (command : CommandForm) (what : Sought) → Stops told command → IsAbsent told command what → ⊥
@@ -638,7 +644,7 @@ module _ (told : Option Held)
     stops_there (TakesStep of edge) what h lacks =
         edge_there (drawn_form h.0) edge what (edge_met of of edge h.0 h.2)
         (lacks_edge of lacks.0 h.0 (same_inputs of lacks.0 h.0 lacks.1 h.1) edge what lacks.2)
-    stops_there (TellsWitness of edge number bounds) what h lacks = kept_heaps of of edge number bounds h.0 h.2
+    stops_there (TellsWitness of aim bounds) what h lacks = kept_heaps of of aim bounds h.0 h.2
     stops_there other what h lacks = lacks
 
     -- ---- what isn't there
@@ -669,20 +675,20 @@ module _ (told : Option Held)
         (has_edge of can.0 h.0 (same_inputs of can.0 h.0 can.1 h.1) edge can.3)
         (edge_lack of of h.0 edge what h.2)
     absent_done (TellsCounts of) what h can = h.2
-    absent_done (TellsWitness of edge number bounds) what h can =
+    absent_done (TellsWitness of aim bounds) what h can =
         let same = same_inputs of can.0 h.0 can.1 h.1 in
-        let such = searches of can.0 h.0 same edge number bounds (λ q. ¬ HasWitness q) can.2 in
-        searched_there (drawn_form h.0) edge number what such.0 such.1 such.2 h.2
+        let such = searches of can.0 h.0 same aim.edge aim.number bounds (λ q. ¬ HasWitness q) can.2 in
+        searched_there (drawn_form h.0) aim.edge aim.number what such.0 such.1 such.2 h.2
     absent_done other what h can = h
 
     absent_some : (command : CommandForm) (what : Sought)
         → FilesMeanSuch told command (λ of inputs. NamesNothing command of inputs what)
         → LosesSome told command → ⊥
     absent_some (TellsLosses of) what h some = h.2
-    absent_some (TellsWitness of edge number bounds) what h some =
+    absent_some (TellsWitness of aim bounds) what h some =
         let same = same_inputs of some.0 h.0 some.1 h.1 in
-        let such = searches of some.0 h.0 same edge number bounds HasWitness some.2 in
-        searched_there (drawn_form h.0) edge number what such.0 such.1 such.2 h.2
+        let such = searches of some.0 h.0 same aim.edge aim.number bounds HasWitness some.2 in
+        searched_there (drawn_form h.0) aim.edge aim.number what such.0 such.1 such.2 h.2
     absent_some other what h some = some
 
     one_absence : (command : CommandForm) (what other : Sought)
@@ -716,9 +722,9 @@ module _ (told : Option Held)
     one_absence (TakesStep of edge) what other h lacks =
         one_edge_lack (drawn_form h.0) edge what other (edge_lack of of h.0 edge what h.2)
         (lacks_edge of lacks.0 h.0 (same_inputs of lacks.0 h.0 lacks.1 h.1) edge other lacks.2)
-    one_absence (TellsWitness of edge number bounds) what other h lacks =
-        one_search_lack (drawn_form h.0) edge number what other h.2
-        (lacks_search of lacks.0 h.0 (same_inputs of lacks.0 h.0 lacks.1 h.1) edge number other lacks.2)
+    one_absence (TellsWitness of aim bounds) what other h lacks =
+        one_search_lack (drawn_form h.0) aim.edge aim.number what other h.2
+        (lacks_search of lacks.0 h.0 (same_inputs of lacks.0 h.0 lacks.1 h.1) aim.edge aim.number other lacks.2)
     one_absence other what sought h lacks = absurd lacks
 
     -- ---- programs that aren't written

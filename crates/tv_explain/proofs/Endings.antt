@@ -34,7 +34,7 @@ module _ (told : Option Held) where
   not_missing (TellsCounts of) holds lacks = inputs_not_missing of holds lacks
   not_missing (Completes program structures) holds (inl lacks) = holds.0 lacks
   not_missing (Completes program structures) holds (inr later) = later.2 holds.1
-  not_missing (TellsWitness of edge number bounds) holds lacks = inputs_not_missing of holds lacks
+  not_missing (TellsWitness of aim bounds) holds lacks = inputs_not_missing of holds lacks
 
   -- no file is missing where all that the command asks for are there
   pub none_missing : ((words : List (List ℕ)) (a b : CommandForm) → Spells words a → Spells words b → a ≡ b)

@@ -50,6 +50,7 @@ use Rattle.tv_explain_text.specs.Trails.{at_hand_line, raised_line, trail_text}
 use Rattle.tv_explain_words.specs.Words.{AnalyzedForm, CommandForm, Shows, ListsEdges, TellsMessage}
 use Rattle.tv_explain_words.specs.Words.{TellsStructure, TellsLosses, Compiles, TakesStep, TellsPlan}
 use Rattle.tv_explain_words.specs.Words.{BoundsForm, TellsCounts, Completes, TellsWitness}
+use Rattle.tv_explain_words.specs.declared.words.Aim.{Aim}
 use Rattle.tv_heap_search.specs.declared.error.Unanswered.TheVariants.{TooMany}
 use Rattle.tv_heap_steps.specs.Settled.{AreAllSettled}
 use Rattle.tv_witness_text.specs.Cells.{cells_for}
@@ -108,18 +109,18 @@ witness_task of inputs bounds = record {
 
 -- the answer is what is told of the message of this number among those of the edge's action, and says whether
 -- a witness is
-abbrev pub TellsOfWitness : AnalyzedForm → Inputs → (edge number : ℕ) → BoundsForm → Answer → Type 0
-TellsOfWitness of inputs edge number bounds answer = (message : MessageForm)
-    × (slice_get (messages_at (drawn_form inputs) edge) number ≡ Some message)
+abbrev pub TellsOfWitness : AnalyzedForm → Inputs → Aim → BoundsForm → Answer → Type 0
+TellsOfWitness of inputs aim bounds answer = (message : MessageForm)
+    × (slice_get (messages_at (drawn_form inputs) aim.edge) aim.number ≡ Some message)
     × AreAllSettled (drawn_form inputs).actions
-    × IsWitnessReport (witness_task of inputs bounds) edge number message
+    × IsWitnessReport (witness_task of inputs bounds) aim.edge aim.number aim.piece message
     (record { text = answer.text; is_found = answer.is_lost })
 
 -- the search with so many individuals has passed its limit, and no witness has fewer
-abbrev pub PassesStates : AnalyzedForm → Inputs → (edge number : ℕ) → BoundsForm → Passed → Type 0
-PassesStates of inputs edge number bounds passed = (passed.states ≡ bounds.states) × (message : MessageForm)
-    × (slice_get (messages_at (drawn_form inputs) edge) number ≡ Some message)
-    × IsCauseOfNoReport (witness_task of inputs bounds) edge message (TooMany passed.cells)
+abbrev pub PassesStates : AnalyzedForm → Inputs → Aim → BoundsForm → Passed → Type 0
+PassesStates of inputs aim bounds passed = (passed.states ≡ bounds.states) × (message : MessageForm)
+    × (slice_get (messages_at (drawn_form inputs) aim.edge) aim.number ≡ Some message)
+    × IsCauseOfNoReport (witness_task of inputs bounds) aim.edge message (TooMany passed.cells)
 
 -- ---- compiled programs
 
@@ -195,15 +196,15 @@ IsText told (TellsCounts of) text = (inputs : Inputs) × FilesMean told of input
     × IsCountsText (drawn_form inputs) of.mode inputs.initial of.max text
 IsText told (Completes program structures) text = ReadsSuch told program structures
     (λ p read. IsCompletedText p read.bytes.items read.tokens.list.items read.structures text)
-IsText told (TellsWitness of edge number bounds) text = ⊥
+IsText told (TellsWitness of aim bounds) text = ⊥
 
 -- The answer is what the command gives: of `losses` what the analysis loses; of `witness` what is told of a
 -- message; of each other a text, and that nothing is lost.
 abbrev pub IsAnswer : Option Held → CommandForm → Answer → Type 0
 IsAnswer told (TellsLosses of) answer = (inputs : Inputs) × FilesMean told of inputs
     × TellsOfLosses of inputs answer
-IsAnswer told (TellsWitness of edge number bounds) answer = (inputs : Inputs) × FilesMean told of inputs
-    × TellsOfWitness of inputs edge number bounds answer
+IsAnswer told (TellsWitness of aim bounds) answer = (inputs : Inputs) × FilesMean told of inputs
+    × TellsOfWitness of inputs aim bounds answer
 IsAnswer told other answer = IsText told other answer.text.items × (answer.is_lost ≡ false)
 
 -- ---- limits, and what isn't there
@@ -236,15 +237,15 @@ NamesNothing (TellsStructure asked node index) of inputs sought.Structure = (pla
     × (slice_get (drawn_form inputs).nodes place ≡ Some node)
     × HasNone (drawn_form inputs) of.mode inputs.initial of.max place index
 NamesNothing (TakesStep asked edge) of inputs sought.Edge = length (drawn_form inputs).edges ≤ edge
-NamesNothing (TellsWitness asked edge number bounds) of inputs what =
-    LacksSearch (drawn_form inputs) edge number what
+NamesNothing (TellsWitness asked aim bounds) of inputs what =
+    LacksSearch (drawn_form inputs) aim.edge aim.number what
 NamesNothing command of inputs other = ⊥
 
 -- more structures are reached than may be listed; a step, counts and a search among heaps have no such limit
 abbrev pub PassesMost : CommandForm → AnalyzedForm → Inputs → Type 0
 PassesMost (TakesStep asked edge) of inputs = ⊥
 PassesMost (TellsCounts asked) of inputs = ⊥
-PassesMost (TellsWitness asked edge number bounds) of inputs = ⊥
+PassesMost (TellsWitness asked aim bounds) of inputs = ⊥
 PassesMost command of inputs = AreMoreThan of.max (Reached of inputs)
 
 -- a step that the command takes meets the budget: that of a structure along the command's edge, of an
@@ -252,14 +253,14 @@ PassesMost command of inputs = AreMoreThan of.max (Reached of inputs)
 abbrev pub MeetsItsBudget : CommandForm → AnalyzedForm → Inputs
     → (Budget : ProgramForm → (edge : ℕ) → StructureForm → Type 0) → Type 0
 MeetsItsBudget (TakesStep asked edge) of inputs Budget = Any (Budget (drawn_form inputs) edge) inputs.initial
-MeetsItsBudget (TellsWitness asked edge number bounds) of inputs Budget = ⊥
+MeetsItsBudget (TellsWitness asked aim bounds) of inputs Budget = ⊥
 MeetsItsBudget command of inputs Budget =
     Meets (drawn_form inputs) (Budget (drawn_form inputs)) (Reached of inputs)
 
 -- a search among heaps has passed its limit
 abbrev pub PassesItsStates : CommandForm → AnalyzedForm → Inputs → Passed → Type 0
-PassesItsStates (TellsWitness asked edge number bounds) of inputs passed =
-    PassesStates of inputs edge number bounds passed
+PassesItsStates (TellsWitness asked aim bounds) of inputs passed =
+    PassesStates of inputs aim bounds passed
 PassesItsStates command of inputs passed = ⊥
 
 -- why the command gives no text where its files mean these: more structures are reached than may be listed,
@@ -289,7 +290,7 @@ FilesMeanSuch told (TakesStep of edge) AreSuch =
 FilesMeanSuch told (TellsPlan program mode delta) AreSuch = ⊥
 FilesMeanSuch told (TellsCounts of) AreSuch = (inputs : Inputs) × FilesMean told of inputs × AreSuch of inputs
 FilesMeanSuch told (Completes program structures) AreSuch = ⊥
-FilesMeanSuch told (TellsWitness of edge number bounds) AreSuch =
+FilesMeanSuch told (TellsWitness of aim bounds) AreSuch =
     (inputs : Inputs) × FilesMean told of inputs × AreSuch of inputs
 
 -- it is a command on a source program, which is compiled, or on structures that are completed, and what

@@ -22,7 +22,7 @@ begins_of held (TakesStep of edge) = program_begins held of.program + 1
 begins_of held (TellsPlan program mode delta) = program_begins held program
 begins_of held (TellsCounts of) = program_begins held of.program + 1
 begins_of held (Completes program structures) = program_begins held program + 1
-begins_of held (TellsWitness of edge number bounds) = program_begins held of.program + 1
+begins_of held (TellsWitness of aim bounds) = program_begins held of.program + 1
 
 -- by as much as the command asks for
 abbrev pub BeginsFor : Option Held → (old new : ℕ) → CommandForm → Type 0

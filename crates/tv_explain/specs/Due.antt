@@ -68,7 +68,7 @@ KeepsReached of inputs =
 abbrev pub KeepsItsLimits : CommandForm → AnalyzedForm → Inputs → Type 0
 KeepsItsLimits (TakesStep asked edge) of inputs = KeepsEach edge inputs
 KeepsItsLimits (TellsCounts asked) of inputs = KeepsReached of inputs
-KeepsItsLimits (TellsWitness asked edge number bounds) of inputs = Unit {0}
+KeepsItsLimits (TellsWitness asked aim bounds) of inputs = Unit {0}
 KeepsItsLimits command of inputs = IsWithinLimits of inputs
 
 -- wherever a node of this name stands, what the analysis lists there is such
@@ -136,15 +136,15 @@ CanAnswer told (TellsCounts of) = (inputs : Inputs) × FilesMean told of inputs 
 CanAnswer told (Completes program structures) = AreReadTogether told program structures
     × ((p : Program) (read : StructuresText) → IsProgramFile told program (Ok p)
     → IsStructuresText told structures p read → CanBeCompleted p read)
-CanAnswer told (TellsWitness of edge number bounds) = (inputs : Inputs) × FilesMean told of inputs
-    × SearchesSuch of inputs edge number bounds (λ q. ¬ HasWitness q)
+CanAnswer told (TellsWitness of aim bounds) = (inputs : Inputs) × FilesMean told of inputs
+    × SearchesSuch of inputs aim.edge aim.number bounds (λ q. ¬ HasWitness q)
 
 -- it is `losses`, of an analysis that loses something; or `witness`, of a message that has one
 abbrev pub LosesSome : Option Held → CommandForm → Type 0
 LosesSome told (TellsLosses of) = (inputs : Inputs) × FilesMean told of inputs
     × IsWithinLimits of inputs × LosesSuch of inputs (λ losses. ¬ AreNone losses)
-LosesSome told (TellsWitness of edge number bounds) = (inputs : Inputs) × FilesMean told of inputs
-    × SearchesSuch of inputs edge number bounds HasWitness
+LosesSome told (TellsWitness of aim bounds) = (inputs : Inputs) × FilesMean told of inputs
+    × SearchesSuch of inputs aim.edge aim.number bounds HasWitness
 LosesSome told other = ⊥
 
 -- the program has no edge of that number, or the edge's action no such message
@@ -174,8 +174,8 @@ IsAbsent told (TellsStructure of node index) what = (inputs : Inputs) × FilesMe
     × IsWithinLimits of inputs × LacksStructure of inputs node index what
 IsAbsent told (TakesStep of edge) what = (inputs : Inputs) × FilesMean told of inputs
     × LacksEdge (drawn_form inputs) edge what
-IsAbsent told (TellsWitness of edge number bounds) what = (inputs : Inputs) × FilesMean told of inputs
-    × LacksSearch (drawn_form inputs) edge number what
+IsAbsent told (TellsWitness of aim bounds) what = (inputs : Inputs) × FilesMean told of inputs
+    × LacksSearch (drawn_form inputs) aim.edge aim.number what
 IsAbsent told other what = ⊥
 
 -- each completed file is too long, or none means the completed structures, as the reason says

@@ -110,8 +110,8 @@ usage_text =
     ++ line (codes
     "       tvla-explain counts PROGRAM INITIAL [--max-structures N] [--recompute | --delta]")
     ++ line (codes "       tvla-explain complete PROGRAM STRUCTURES")
-    ++ line (codes
-    "       tvla-explain witness PROGRAM INITIAL EDGE NUMBER [--cells K] [--max-states M] [--recompute | --delta]")
+    ++ line (codes "       tvla-explain witness PROGRAM INITIAL EDGE NUMBER [--cells K] [--max-states M]"
+    ++ codes " [--start-only | --trace-only] [--recompute | --delta]")
 
 -- what isn't there
 abbrev pub absent_text : Sought → List ℕ

@@ -34,7 +34,7 @@ program_name (TakesStep of edge) = of.program
 program_name (TellsPlan program mode delta) = program
 program_name (TellsCounts of) = of.program
 program_name (Completes program structures) = program
-program_name (TellsWitness of edge number bounds) = of.program
+program_name (TellsWitness of aim bounds) = of.program
 
 -- ---- a program with its edges as they are written
 
@@ -104,7 +104,7 @@ IsRefused told (TellsCounts of) role kind = IsNoAnalysis told of role kind
 IsRefused told (Completes program structures) role.Program kind = IsProgramFile told program (Err kind)
 IsRefused told (Completes program structures) role.Initial kind = (p : Program)
     × IsProgramFile told program (Ok p) × IsInitialFile told structures p (Err kind)
-IsRefused told (TellsWitness of edge number bounds) role kind = IsNoAnalysis told of role kind
+IsRefused told (TellsWitness of aim bounds) role kind = IsNoAnalysis told of role kind
 IsRefused told command other kind = ⊥
 
 -- PROGRAM isn't there, or a file that it includes and that is come to before any refusal; or it means a
@@ -128,7 +128,7 @@ IsMissing told (TellsPlan program mode delta) = LacksFile told program
 IsMissing told (TellsCounts of) = LacksInputs told of
 IsMissing told (Completes program structures) = LacksFile told program
     ⊎ ((p : Program) × IsProgramFile told program (Ok p) × (¬ HoldsName told structures))
-IsMissing told (TellsWitness of edge number bounds) = LacksInputs told of
+IsMissing told (TellsWitness of aim bounds) = LacksInputs told of
 
 abbrev pub HoldsInputs : Option Held → AnalyzedForm → Type 0
 HoldsInputs told of = (¬ LacksFile told of.program) × HoldsName told of.initial
@@ -145,4 +145,4 @@ HoldsFiles told (TakesStep of edge) = HoldsInputs told of
 HoldsFiles told (TellsPlan program mode delta) = ¬ LacksFile told program
 HoldsFiles told (TellsCounts of) = HoldsInputs told of
 HoldsFiles told (Completes program structures) = (¬ LacksFile told program) × HoldsName told structures
-HoldsFiles told (TellsWitness of edge number bounds) = HoldsInputs told of
+HoldsFiles told (TellsWitness of aim bounds) = HoldsInputs told of

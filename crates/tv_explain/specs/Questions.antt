@@ -13,7 +13,7 @@ use Rattle.tv_explain_words.specs.Words.{AnalyzedForm, CommandForm, TakesStep, T
 use Rattle.tv_explain_words.specs.Words.{TellsMessage, TellsStructure, TellsWitness, bounds_of}
 
 abbrev pub witness_command : AnalyzedForm → Search → CommandForm
-witness_command of search = TellsWitness of search.edge search.number (bounds_of search.bounds)
+witness_command of search = TellsWitness of search.aim (bounds_of search.bounds)
 
 -- the command that asks this of an analysis
 abbrev pub command_of : AnalyzedForm → Question → CommandForm
@@ -38,4 +38,4 @@ IsTold of inputs (asked.Step edge) answer = IsPlain (IsStepText of inputs edge) 
 IsTold of inputs asked.Counts answer =
     IsPlain (IsCountsText (drawn_form inputs) of.mode inputs.initial of.max) answer
 IsTold of inputs (asked.Witness search) answer =
-    TellsOfWitness of inputs search.edge search.number (bounds_of search.bounds) answer
+    TellsOfWitness of inputs search.aim (bounds_of search.bounds) answer

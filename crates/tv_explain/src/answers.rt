@@ -31,7 +31,7 @@ use tv_stages::Stager;
 use tv_stages_text::{StageWriter, slow_steps_are_over};
 use tv_struct::Structure;
 use tv_trail::{Raised, trail_to_listed, trail_to_message};
-use tv_witness_text::{Searched, cells_for, explain_witness};
+use tv_witness_text::{Searched, Wanted, cells_for, explain_witness};
 
 /// The text that no reached structure raises a message.
 fn no_message(alloc: Global) -> Result<Vec<u8>, AllocError>
@@ -258,8 +258,7 @@ fn losses_answer(alloc: Global, inputs: &Inputs, of: &Analyzed) -> Result<Answer
     }
 }
 
-/// What is told of the message of this number among those of the edge's action: a witness, or that there is
-/// none.
+/// What is told of the message that is searched for: a witness, or that there is none.
 fn witness_answer(
     alloc: Global,
     inputs: &Inputs,
@@ -267,17 +266,13 @@ fn witness_answer(
     search: &Search,
 ) -> Result<Answer, Fault>
     requires { AreReady inputs.now }
-    ensures found { IfOk result (TellsOfWitness (analyzed_of of.now) inputs.now search.now.edge
-        search.now.number (bounds_of search.now.bounds)) }
+    ensures found { IfOk result (TellsOfWitness (analyzed_of of.now) inputs.now search.now.aim
+        (bounds_of search.now.bounds)) }
     ensures cause { IfErr result (IsStopped (witness_command (analyzed_of of.now) search.now)
         (analyzed_of of.now) inputs.now) }
 {
-    let Search {
-        edge,
-        number,
-        bounds,
-    } = *search;
-    let message = match message_at(inputs, edge, number) {
+    let Search { aim, bounds } = *search;
+    let message = match message_at(inputs, aim.edge, aim.number) {
         Ok(message) => message,
         Err(what) => return Err(Fault::NotThere(what)),
     };
@@ -289,7 +284,13 @@ fn witness_answer(
         cells: cells_for(bounds.cells, inputs.initial.as_slice()),
         most: u64::from(bounds.states),
     };
-    match explain_witness(alloc, &searched, edge, number, message) {
+    let wanted = Wanted {
+        edge: aim.edge,
+        number: aim.number,
+        message,
+        piece: aim.piece,
+    };
+    match explain_witness(alloc, &searched, &wanted) {
         Err(error) => Err(fault_of_search(error, bounds.states)),
         Ok(report) => Ok(Answer {
             text: report.text,

@@ -24,7 +24,7 @@ const USAGE: &[u8] =
        tvla-explain plan PROGRAM [--recompute | --delta]
        tvla-explain counts PROGRAM INITIAL [--max-structures N] [--recompute | --delta]
        tvla-explain complete PROGRAM STRUCTURES
-       tvla-explain witness PROGRAM INITIAL EDGE NUMBER [--cells K] [--max-states M] [--recompute | --delta]
+       tvla-explain witness PROGRAM INITIAL EDGE NUMBER [--cells K] [--max-states M] [--start-only | --trace-only] [--recompute | --delta]
 ";
 
 /// Gives the text that tells what isn't there to the sink; takes no memory.

@@ -1,12 +1,11 @@
 //! What is asked of an analysis, or of its initial structures.
 
-use tv_explain_words::Bounds;
+use tv_explain_words::{Aim, Bounds};
 
-/// A message, by its number among those of the edge's action, and how far heaps are searched for it.
+/// A message of an edge, and how far heaps are searched for it.
 #[derive(Clone, Copy)]
 pub struct Search {
-    pub edge: u32,
-    pub number: u32,
+    pub aim: Aim,
     pub bounds: Bounds,
 }
 
@@ -23,7 +22,6 @@ pub enum Question<'a> {
     Step { edge: u32 },
     /// How many structures are listed at each node.
     Counts,
-    /// Whether the message of this number among those of the edge's action is true in a run of few small
-    /// heaps.
+    /// Whether the message is true at the end of a run of small heaps.
     Witness(Search),
 }

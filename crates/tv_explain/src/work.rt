@@ -150,18 +150,9 @@ fn execute<F: Files>(alloc: Global, files: &mut F, command: &Command) -> Result<
             delta,
         } => plain(plan(alloc, files, program, *mode, *delta)),
         Command::Counts { of } => ask(alloc, files, of, &Question::Counts),
-        Command::Witness {
-            of,
-            edge,
-            number,
-            bounds,
-        } => {
-            let search = Search {
-                edge: *edge,
-                number: *number,
-                bounds: *bounds,
-            };
-            ask(alloc, files, of, &Question::Witness(search))
+        Command::Witness { of, aim, bounds } => {
+            let (aim, bounds) = (*aim, *bounds);
+            ask(alloc, files, of, &Question::Witness(Search { aim, bounds }))
         }
         Command::Complete {
             program,

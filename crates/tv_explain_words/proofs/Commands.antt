@@ -1,5 +1,5 @@
 -- From what stands on a line to the command that it says, or to none.
-use Rattle.std.proofs.Common.{◌≡◌, ◌∙◌, ℕ, false, refl, sym, ap, ap₂, subst, arith, List, [], ◌∷◌}
+use Rattle.std.proofs.Common.{◌≡◌, ◌∙◌, ℕ, false, refl, sym, ap, ap₂, subst, arith, List, [], ◌∷◌, length, min}
 use Rattle.std.specs.Prelude.{codes, drop, Option, Some, None, Result, Ok, Err, IfOk, IfSome, IfNone}
 use Rattle.std.specs.List.{slice_index_or}
 use Rattle.std.proofs.lemmas.Fmt.{decimal_injective}
@@ -7,15 +7,19 @@ use Rattle.tv_model.specs.declared.program.Mode.TheVariants.{Given}
 use Rattle.clap.specs.declared.parser.matches.ArgMatches.{ArgMatches}
 use Rattle.tv_words.specs.Line.{IsLine}
 use Rattle.tv_words.specs.Setup.{HasLine, HasNoLine}
-use Rattle.tv_words.specs.Words.{LineForm, line_flags}
-use Rattle.tv_words.proofs.Commands.{AreAlike, turned, same_flags, same_max, one_mode}
+use Rattle.tv_words.specs.Words.{LineForm}
+use Rattle.tv_words.proofs.Commands.{AreAlike, turned, same_flags, same_max, few_uses, one_mode}
 use Rattle.tv_words.proofs.Commands.{one_bool, one_max, operand}
 use Rattle.tv_words.proofs.Reading.{one_line}
 use Rattle.tv_explain_words.specs.Words.{AnalyzedForm, CommandForm, Shows, ListsEdges, TellsMessage}
 use Rattle.tv_explain_words.specs.Words.{TellsStructure, TellsLosses, Compiles, HasOptions, IsNumber}
 use Rattle.tv_explain_words.specs.Words.{TakesStep, TellsPlan, TellsCounts, Completes, IsPlain, Says}
-use Rattle.tv_explain_words.specs.Words.{TellsWitness, AskedForm, Asks, BoundsForm, IsAskedBy, IsAskedOn, IsCells}
-use Rattle.tv_explain_words.specs.Words.{IsStates, NoneAskedBy, SaysBounds, asked_of, asked_settings, told_asked}
+use Rattle.tv_explain_words.specs.Words.{TellsWitness, AskedForm, Asks, BoundsForm}
+use Rattle.tv_explain_words.specs.Words.{ArePieces, IsAskedBy, IsAskedOn, IsCells, IsStates, NoneAskedBy}
+use Rattle.tv_explain_words.specs.Words.{SaysBounds, SaysPiece, asked_flags, asked_of, asked_settings, piece_for}
+use Rattle.tv_explain_words.specs.Words.{told_asked}
+use Rattle.tv_explain_words.specs.declared.words.Piece.{Piece}
+use Rattle.tv_explain_words.specs.declared.words.Piece.TheVariants.{Whole, Start, Trace}
 use Rattle.tv_explain_words.specs.Words.{IsSaid, NoneSaid, Spells, SpellsNothing, command_word, form_of}
 use Rattle.tv_explain_words.specs.declared.words.Command.{Command}
 
@@ -42,7 +46,7 @@ module _ (a b : LineForm) (alike : AreAlike a b) where
       (sym alike.operands ∙ h.0, same_flags a b alike mode delta false h.1, sym alike.max ∙ h.2)
   same_said (TellsCounts of) h = (sym alike.operands ∙ h.0, same_options of h.1)
   same_said (Completes program structures) h = (sym alike.operands ∙ h.0, same_plain h.1)
-  same_said (TellsWitness of edge number bounds) h =
+  same_said (TellsWitness of aim bounds) h =
       (h.0, h.1, sym alike.operands ∙ h.2, same_options of h.3, sym alike.max ∙ h.4, h.5, h.6)
 
 -- lines with bounds that are alike
@@ -50,13 +54,23 @@ record AreAskedAlike (a b : AskedForm) : Type 0 where
   pub line : AreAlike a.line b.line
   pub cells : a.cells ≡ b.cells
   pub states : a.states ≡ b.states
+  pub start_only : min a.start_only 255 ≡ min b.start_only 255
+  pub trace_only : min a.trace_only 255 ≡ min b.trace_only 255
 
 asked_turned : (a b : AskedForm) → AreAskedAlike a b → AreAskedAlike b a
 asked_turned a b alike = record {
   line = turned a.line b.line alike.line;
   cells = sym alike.cells;
   states = sym alike.states;
+  start_only = sym alike.start_only;
+  trace_only = sym alike.trace_only;
 }
+
+same_pieces : (s t s' t' : ℕ) → min s 255 ≡ min s' 255 → min t 255 ≡ min t' 255 → (piece : Piece)
+    → ArePieces s t piece → ArePieces s' t' piece
+same_pieces s t s' t' e f Whole h = (few_uses s s' 0 e h.0 (omega arith), few_uses t t' 0 f h.1 (omega arith))
+same_pieces s t s' t' e f Start h = (few_uses s s' 1 e h.0 (omega arith), few_uses t t' 0 f h.1 (omega arith))
+same_pieces s t s' t' e f Trace h = (few_uses s s' 0 e h.0 (omega arith), few_uses t t' 1 f h.1 (omega arith))
 
 module _ (a b : AskedForm) (alike : AreAskedAlike a b) where
   same_without : (a.cells ≡ []) × (a.states ≡ []) → (b.cells ≡ []) × (b.states ≡ [])
@@ -73,54 +87,63 @@ module _ (a b : AskedForm) (alike : AreAskedAlike a b) where
   same_bounds (TellsPlan program mode delta) h = same_without h
   same_bounds (TellsCounts of) h = same_without h
   same_bounds (Completes program structures) h = same_without h
-  same_bounds (TellsWitness of edge number bounds) h = (
+  same_bounds (TellsWitness of aim bounds) h = (
     subst (λ vs. IsCells vs bounds.cells) alike.cells h.0,
     subst (λ vs. IsStates vs bounds.states) alike.states h.1,
   )
 
   same_asked : (command : CommandForm) → Asks a command → Asks b command
-  same_asked command h = (same_said a.line b.line alike.line command h.0, same_bounds command h.1)
+  same_asked command h = (
+    same_said a.line b.line alike.line command h.0,
+    same_bounds command h.1,
+    same_pieces a.start_only a.trace_only b.start_only b.trace_only alike.start_only alike.trace_only
+        (piece_for command) h.2,
+  )
 
 -- ---- commands that search no heaps
 
-module _ (name : List ℕ) (asked : AskedForm) (other : name ≡ codes "witness" → ⊥) where
-  -- neither option stands
-  no_bounds : (command : CommandForm) → command_word command ≡ name → (asked.cells ≡ []) × (asked.states ≡ [])
-      → SaysBounds asked command
-  no_bounds (Shows program report) named none = none
-  no_bounds (ListsEdges program) named none = none
-  no_bounds (TellsMessage of edge number) named none = none
-  no_bounds (TellsStructure of node index) named none = none
-  no_bounds (TellsLosses of) named none = none
-  no_bounds (Compiles source) named none = none
-  no_bounds (TakesStep of edge) named none = none
-  no_bounds (TellsPlan program mode delta) named none = none
-  no_bounds (TellsCounts of) named none = none
-  no_bounds (Completes program structures) named none = none
-  no_bounds (TellsWitness of edge number bounds) named none = absurd (other (sym named))
+-- no option of searches stands
+abbrev HasNone : AskedForm → Type 0
+HasNone asked = (asked.cells ≡ []) × (asked.states ≡ []) × ArePieces asked.start_only asked.trace_only Whole
 
-  bounds_none : (command : CommandForm) → command_word command ≡ name → SaysBounds asked command
-      → (asked.cells ≡ []) × (asked.states ≡ [])
-  bounds_none (Shows program report) named none = none
-  bounds_none (ListsEdges program) named none = none
-  bounds_none (TellsMessage of edge number) named none = none
-  bounds_none (TellsStructure of node index) named none = none
-  bounds_none (TellsLosses of) named none = none
-  bounds_none (Compiles source) named none = none
-  bounds_none (TakesStep of edge) named none = none
-  bounds_none (TellsPlan program mode delta) named none = none
-  bounds_none (TellsCounts of) named none = none
-  bounds_none (Completes program structures) named none = none
-  bounds_none (TellsWitness of edge number bounds) named none = absurd (other (sym named))
+module _ (name : List ℕ) (asked : AskedForm) (other : name ≡ codes "witness" → ⊥) where
+  no_options : (command : CommandForm) → command_word command ≡ name → HasNone asked
+      → SaysBounds asked command × SaysPiece asked command
+  no_options (Shows program report) named (x, y, z) = ((x, y), z)
+  no_options (ListsEdges program) named (x, y, z) = ((x, y), z)
+  no_options (TellsMessage of edge number) named (x, y, z) = ((x, y), z)
+  no_options (TellsStructure of node index) named (x, y, z) = ((x, y), z)
+  no_options (TellsLosses of) named (x, y, z) = ((x, y), z)
+  no_options (Compiles source) named (x, y, z) = ((x, y), z)
+  no_options (TakesStep of edge) named (x, y, z) = ((x, y), z)
+  no_options (TellsPlan program mode delta) named (x, y, z) = ((x, y), z)
+  no_options (TellsCounts of) named (x, y, z) = ((x, y), z)
+  no_options (Completes program structures) named (x, y, z) = ((x, y), z)
+  no_options (TellsWitness of aim bounds) named none = absurd (other (sym named))
+
+  options_none : (command : CommandForm) → command_word command ≡ name
+      → SaysBounds asked command × SaysPiece asked command → HasNone asked
+  options_none (Shows program report) named ((x, y), z) = (x, y, z)
+  options_none (ListsEdges program) named ((x, y), z) = (x, y, z)
+  options_none (TellsMessage of edge number) named ((x, y), z) = (x, y, z)
+  options_none (TellsStructure of node index) named ((x, y), z) = (x, y, z)
+  options_none (TellsLosses of) named ((x, y), z) = (x, y, z)
+  options_none (Compiles source) named ((x, y), z) = (x, y, z)
+  options_none (TakesStep of edge) named ((x, y), z) = (x, y, z)
+  options_none (TellsPlan program mode delta) named ((x, y), z) = (x, y, z)
+  options_none (TellsCounts of) named ((x, y), z) = (x, y, z)
+  options_none (Completes program structures) named ((x, y), z) = (x, y, z)
+  options_none (TellsWitness of aim bounds) named none = absurd (other (sym named))
 
   -- an option stands that the command doesn't have
-  pub none_with_bounds : ((asked.cells ≡ []) × (asked.states ≡ []) → ⊥) → NoneAskedBy name asked
-  none_with_bounds some command is = some (bounds_none command is.0 is.1.1)
+  pub none_with_options : (HasNone asked → ⊥) → NoneAskedBy name asked
+  none_with_options some command is = some (options_none command is.0 (is.1.1, is.1.2))
 
-  pub asked_without : {E : Type 0} (r : Result (Option Command) E) → (asked.cells ≡ []) × (asked.states ≡ [])
+  pub asked_without : {E : Type 0} (r : Result (Option Command) E) → HasNone asked
       → IfOk r (λ found. IfSome found (λ command. IsSaid name asked.line (form_of command)))
       → IfOk r (λ found. IfSome found (λ command. IsAskedBy name asked (form_of command)))
-  asked_without (Ok (Some command)) none is = (is.0, (is.1, no_bounds (form_of command) is.0 none))
+  asked_without (Ok (Some command)) none is =
+      let options = no_options (form_of command) is.0 none in (is.0, (is.1, options.0, options.1))
   asked_without (Ok None) none is = is
   asked_without (Err e) none is = is
 
@@ -135,10 +158,10 @@ module _ (name : List ℕ) (asked : AskedForm) (other : name ≡ codes "witness"
 
 one_asked_form : (words : List (List ℕ)) (a b : AskedForm) → IsAskedOn words a → IsAskedOn words b → a ≡ b
 one_asked_form words a b x y =
-    let same = one_line line_flags asked_settings refl words x.parts y.parts x.behind y.behind x.spelled y.spelled in
+    let same = one_line asked_flags asked_settings refl words x.parts y.parts x.behind y.behind x.spelled y.spelled in
     x.is ∙ ap₂ asked_of same.0 same.1 ∙ sym y.is
 
-module _ (words : List (List ℕ)) (m : ArgMatches) (h : HasLine line_flags asked_settings words m) where
+module _ (words : List (List ℕ)) (m : ArgMatches) (h : HasLine asked_flags asked_settings words m) where
   asked_there : IsAskedOn words (asked_of h.parts h.behind)
   asked_there = record { parts = h.parts; behind = h.behind; spelled = h.line; is = refl }
 
@@ -153,6 +176,8 @@ module _ (words : List (List ℕ)) (m : ArgMatches) (h : HasLine line_flags aske
     };
     cells = h.finds.values (codes "cells") refl;
     states = h.finds.values (codes "max-states") refl;
+    start_only = h.finds.uses (codes "start-only") refl;
+    trace_only = h.finds.uses (codes "trace-only") refl;
   }
 
 -- ---- what stands on the words
@@ -165,13 +190,13 @@ module _ (name : List ℕ) (words rest : List (List ℕ)) (whole : words ≡ nam
       let both : command_word command ∷ other ≡ name ∷ rest = sym f ∙ whole in
       (ap (λ ws. slice_index_or ws 0 []) both, ap (drop 1) both)
 
-  pub none_without_line : HasNoLine line_flags asked_settings rest → SpellsNothing words
+  pub none_without_line : HasNoLine asked_flags asked_settings rest → SpellsNothing words
   none_without_line none command (other, f, is) =
       let same = (behind_name command other f).1 in
       none is.stands.parts is.stands.behind
-      (subst (λ ws. IsLine line_flags asked_settings is.stands.parts is.stands.behind ws) same is.stands.spelled)
+      (subst (λ ws. IsLine asked_flags asked_settings is.stands.parts is.stands.behind ws) same is.stands.spelled)
 
-  module _ (m : ArgMatches) (h : HasLine line_flags asked_settings rest m) where
+  module _ (m : ArgMatches) (h : HasLine asked_flags asked_settings rest m) where
     pub spelled : {E : Type 0} (r : Result (Option Command) E)
         → IfOk r (λ found. IfSome found (λ command. IsAskedBy name (told_asked m) (form_of command)))
         → IfOk r (λ found. IfSome found (λ command. Spells words (form_of command)))
@@ -247,6 +272,18 @@ one_states [] a b x y = x ∙ sym y
 one_states (value ∷ []) a b x y = one_number value value a b refl x y
 one_states (value ∷ second ∷ rest) a b x y = absurd x
 
+one_piece : (start_only trace_only : ℕ) (a b : Piece) → ArePieces start_only trace_only a
+    → ArePieces start_only trace_only b → a ≡ b
+one_piece s t Whole Whole x y = refl
+one_piece s t Whole Start x y = absurd (omega (arith, x.0, y.0))
+one_piece s t Whole Trace x y = absurd (omega (arith, x.1, y.1))
+one_piece s t Start Whole x y = absurd (omega (arith, x.0, y.0))
+one_piece s t Start Start x y = refl
+one_piece s t Start Trace x y = absurd (omega (arith, x.0, y.0))
+one_piece s t Trace Whole x y = absurd (omega (arith, x.1, y.1))
+one_piece s t Trace Start x y = absurd (omega (arith, x.1, y.1))
+one_piece s t Trace Trace x y = refl
+
 one_said : (asked : AskedForm) (a b : CommandForm) → command_word a ≡ command_word b → Asks asked a → Asks asked b
     → a ≡ b
 one_said asked (Shows program report) (Shows program' report') named (a, x) (b, y) =
@@ -290,15 +327,17 @@ one_said asked (TellsCounts of) (TellsCounts of') named (a, x) (b, y) =
 one_said asked (Completes program structures) (Completes program' structures') named (a, x) (b, y) =
     let names : program ∷ structures ∷ [] ≡ program' ∷ structures' ∷ [] = sym a.0 ∙ b.0 in
     λ i. Completes (operand 0 (names i)) (operand 1 (names i))
-one_said asked (TellsWitness of edge number bounds) (TellsWitness of' edge' number' bounds') named (a, x) (b, y) =
+one_said asked (TellsWitness of aim bounds) (TellsWitness of' aim' bounds') named (a, x, p) (b, y, q) =
     let names : of.program ∷ of.initial ∷ a.0 ∷ a.1 ∷ [] ≡ of'.program ∷ of'.initial ∷ b.0 ∷ b.1 ∷ []
     = sym a.2 ∙ b.2 in
     let same = one_asked asked.line of of' (ap (operand 0) names) (ap (operand 1) names) a.3 b.3 in
-    let edges = one_number a.0 b.0 edge edge' (ap (operand 2) names) a.5 b.5 in
-    let numbers = one_number a.1 b.1 number number' (ap (operand 3) names) a.6 b.6 in
+    let edges = one_number a.0 b.0 aim.edge aim'.edge (ap (operand 2) names) a.5 b.5 in
+    let numbers = one_number a.1 b.1 aim.number aim'.number (ap (operand 3) names) a.6 b.6 in
+    let pieces = one_piece asked.start_only asked.trace_only aim.piece aim'.piece p q in
     let cells = one_cells asked.cells bounds.cells bounds'.cells x.0 y.0 in
     let states = one_states asked.states bounds.states bounds'.states x.1 y.1 in
-    λ i. TellsWitness (same i) (edges i) (numbers i) (record { cells = cells i; states = states i })
+    λ i. TellsWitness (same i) (record { edge = edges i; number = numbers i; piece = pieces i })
+    (record { cells = cells i; states = states i })
 one_said asked a b named x y =
     absurd (omega (arith, ap first_byte named, ap third_byte named, ap fifth_byte named))
 

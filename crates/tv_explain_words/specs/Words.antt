@@ -5,9 +5,9 @@ use Rattle.std.specs.Prelude.{string_bytes}
 use Rattle.tv_model.specs.declared.program.Mode.{Mode}
 use Rattle.tv_model.specs.declared.program.Mode.TheVariants.{Given}
 use Rattle.clap.specs.declared.parser.matches.ArgMatches.{ArgMatches}
-use Rattle.tv_words.specs.Line.{Part, IsLine, values_of}
-use Rattle.tv_words.specs.Setup.{line_in, texts_in, told_line, told_texts}
-use Rattle.tv_words.specs.Words.{HasFlags, IsMax, LineForm, line_flags, line_of}
+use Rattle.tv_words.specs.Line.{Part, IsLine, uses_of, values_of}
+use Rattle.tv_words.specs.Setup.{line_in, texts_in, told_line, told_texts, uses_in}
+use Rattle.tv_words.specs.Words.{HasFlags, IsMax, LineForm, line_of}
 use Rattle.tv_explain_words.specs.declared.asked.AskedLine.{AskedLine}
 use Rattle.tv_explain_words.specs.declared.words.Analyzed.{Analyzed}
 use Rattle.tv_explain_words.specs.declared.words.Bounds.{Bounds}
@@ -15,6 +15,9 @@ use Rattle.tv_explain_words.specs.declared.words.Command.{Command}
 use Rattle.tv_explain_words.specs.declared.words.Command.TheVariants.{Show, Edges, Message, Structure, Losses}
 use Rattle.tv_explain_words.specs.declared.words.Command.TheVariants.{Compiled, Step, Plan, Counts, Complete}
 use Rattle.tv_explain_words.specs.declared.words.Command.TheVariants.{Witness}
+use Rattle.tv_explain_words.specs.declared.words.Aim.{Aim}
+use Rattle.tv_explain_words.specs.declared.words.Piece.{Piece}
+use Rattle.tv_explain_words.specs.declared.words.Piece.TheVariants.{Whole, Start, Trace}
 
 -- what an analysis is asked, its files named by bytes: as for `tvla analyze`
 pub record AnalyzedForm : Type 0 where
@@ -53,7 +56,7 @@ pub data CommandForm : Type 0 where
   TellsPlan : (program : List ℕ) → (mode : Mode) → (delta : Bool) → CommandForm
   TellsCounts : (of : AnalyzedForm) → CommandForm
   Completes : (program structures : List ℕ) → CommandForm
-  TellsWitness : (of : AnalyzedForm) → (edge number : ℕ) → (bounds : BoundsForm) → CommandForm
+  TellsWitness : (of : AnalyzedForm) → (aim : Aim) → (bounds : BoundsForm) → CommandForm
 
 abbrev pub form_of : Command → CommandForm
 form_of (Show program report) = Shows (string_bytes program) (string_bytes report)
@@ -66,7 +69,7 @@ form_of (Step of edge) = TakesStep (analyzed_of of) edge
 form_of (Plan program mode delta) = TellsPlan (string_bytes program) mode delta
 form_of (Counts of) = TellsCounts (analyzed_of of)
 form_of (Complete program structures) = Completes (string_bytes program) (string_bytes structures)
-form_of (Witness of edge number bounds) = TellsWitness (analyzed_of of) edge number (bounds_of bounds)
+form_of (Witness of aim bounds) = TellsWitness (analyzed_of of) aim (bounds_of bounds)
 
 -- this is said of the command
 abbrev pub SaidOf : (CommandForm → Type 0) → Command → Type 0
@@ -84,7 +87,7 @@ command_word (TakesStep of edge) = codes "step"
 command_word (TellsPlan program mode delta) = codes "plan"
 command_word (TellsCounts of) = codes "counts"
 command_word (Completes program structures) = codes "complete"
-command_word (TellsWitness of edge number bounds) = codes "witness"
+command_word (TellsWitness of aim bounds) = codes "witness"
 
 -- the word is this number, without sign or leading zero
 abbrev pub IsNumber : (word : List ℕ) → (number : ℕ) → Type 0
@@ -116,21 +119,28 @@ Says line (TellsPlan program mode delta) = (line.operands ≡ program ∷ []) ×
     × (line.max ≡ [])
 Says line (TellsCounts of) = (line.operands ≡ of.program ∷ of.initial ∷ []) × HasOptions line of
 Says line (Completes program structures) = (line.operands ≡ program ∷ structures ∷ []) × IsPlain line
-Says line (TellsWitness of edge number bounds) = (e n : List ℕ)
+Says line (TellsWitness of aim bounds) = (e n : List ℕ)
     × (line.operands ≡ of.program ∷ of.initial ∷ e ∷ n ∷ []) × HasOptions line of × (line.max ≡ [])
-    × IsNumber e edge × IsNumber n number
+    × IsNumber e aim.edge × IsNumber n aim.number
 
 -- ---- lines with the options of searches among heaps
+
+-- the options without a value
+abbrev pub asked_flags : List (List ℕ)
+asked_flags = codes "recompute" ∷ codes "delta" ∷ codes "maps" ∷ codes "start-only" ∷ codes "trace-only" ∷ []
 
 -- the options with values
 abbrev pub asked_settings : List (List ℕ)
 asked_settings = codes "max-structures" ∷ codes "cells" ∷ codes "max-states" ∷ []
 
--- what stands on a line: what any command may have, and the values of `--cells` and `--max-states`
+-- what stands on a line: what any command may have, the values of `--cells` and `--max-states`, and how often
+-- `--start-only` and `--trace-only` stand
 pub record AskedForm : Type 0 where
   pub line : LineForm
   pub cells : List (List ℕ)
   pub states : List (List ℕ)
+  pub start_only : ℕ
+  pub trace_only : ℕ
 
 -- what the parts say, and the operands behind `--`
 abbrev pub asked_of : List Part → (behind : List (List ℕ)) → AskedForm
@@ -138,6 +148,8 @@ asked_of parts behind = record {
   line = line_of parts behind;
   cells = values_of (codes "cells") parts;
   states = values_of (codes "max-states") parts;
+  start_only = uses_of (codes "start-only") parts;
+  trace_only = uses_of (codes "trace-only") parts;
 }
 
 -- the same as `clap` tells it
@@ -146,6 +158,8 @@ told_asked matches = record {
   line = told_line matches;
   cells = texts_in matches (codes "cells");
   states = texts_in matches (codes "max-states");
+  start_only = uses_in matches (codes "start-only");
+  trace_only = uses_in matches (codes "trace-only");
 }
 
 -- the line's texts by their bytes
@@ -154,13 +168,15 @@ asked_in asked = record {
   line = line_in asked.line;
   cells = told_texts asked.cells;
   states = told_texts asked.states;
+  start_only = asked.start_only;
+  trace_only = asked.trace_only;
 }
 
 -- this stands on the words
 pub record IsAskedOn (words : List (List ℕ)) (asked : AskedForm) : Type 0 where
   pub parts : List Part
   pub behind : List (List ℕ)
-  pub spelled : IsLine line_flags asked_settings parts behind words
+  pub spelled : IsLine asked_flags asked_settings parts behind words
   pub is : asked ≡ asked_of parts behind
 
 -- how many individuals a heap may have, where `--cells` has these values: at most 255
@@ -181,14 +197,29 @@ IsStates (first ∷ second ∷ rest) states = ⊥
 abbrev pub HasBounds : AskedForm → BoundsForm → Type 0
 HasBounds asked bounds = IsCells asked.cells bounds.cells × IsStates asked.states bounds.states
 
--- `witness` may have both options, no other command has one
+-- what is to be written, where `--start-only` and `--trace-only` stand so often
+abbrev pub ArePieces : (start_only trace_only : ℕ) → Piece → Type 0
+ArePieces start_only trace_only Whole = (start_only ≡ 0) × (trace_only ≡ 0)
+ArePieces start_only trace_only Start = (start_only ≡ 1) × (trace_only ≡ 0)
+ArePieces start_only trace_only Trace = (start_only ≡ 0) × (trace_only ≡ 1)
+
+-- what is to be written by a command
+abbrev pub piece_for : CommandForm → Piece
+piece_for (TellsWitness of aim bounds) = aim.piece
+piece_for other = Whole
+
+-- what the line says to be written is that
+abbrev pub SaysPiece : AskedForm → CommandForm → Type 0
+SaysPiece asked command = ArePieces asked.start_only asked.trace_only (piece_for command)
+
+-- `witness` may have both bounds, no other command has one
 abbrev pub SaysBounds : AskedForm → CommandForm → Type 0
-SaysBounds asked (TellsWitness of edge number bounds) = HasBounds asked bounds
+SaysBounds asked (TellsWitness of aim bounds) = HasBounds asked bounds
 SaysBounds asked other = (asked.cells ≡ []) × (asked.states ≡ [])
 
 -- a line says a command
 abbrev pub Asks : AskedForm → CommandForm → Type 0
-Asks asked command = Says asked.line command × SaysBounds asked command
+Asks asked command = Says asked.line command × SaysBounds asked command × SaysPiece asked command
 
 -- the line says this command, which has the name
 abbrev pub IsAskedBy : (name : List ℕ) → AskedForm → CommandForm → Type 0

@@ -1,8 +1,9 @@
 //! The words after the program's name.
 
 ghost use Rattle.std.specs.Prelude.{◌≡◌, ℕ, List, [], ◌∷◌, IfOk, IfSome, IfNone, Option, codes};
-ghost use Rattle.tv_explain_words.specs.Words.{BoundsForm, HasBounds, IsAskedBy, IsCells, IsStates};
-ghost use Rattle.tv_explain_words.specs.Words.{NoneAskedBy, asked_in, bounds_of};
+ghost use Rattle.tv_explain_words.specs.Words.{ArePieces, BoundsForm, HasBounds, IsAskedBy, IsCells};
+ghost use Rattle.tv_explain_words.specs.Words.{IsStates, NoneAskedBy, asked_in, bounds_of};
+ghost use Rattle.tv_explain_words.specs.declared.words.Piece.{Piece};
 ghost use Rattle.tv_words.specs.Setup.{line_in, told_texts};
 ghost use Rattle.tv_words.specs.Words.{words_of};
 ghost use Rattle.tv_explain_words.specs.Words.{IsNumber, IsSaid, NoneSaid, Spells, SpellsNothing, SaidOf};
@@ -79,14 +80,28 @@ pub enum Command {
         program: String,
         structures: String,
     },
-    /// Writes a run of few small heaps to a message, by its number among those of the edge's action. `max` is
-    /// that of words that don't say it.
+    /// Writes a run of few small heaps to a message. `max` is that of words that don't say it.
     Witness {
         of: Analyzed,
-        edge: u32,
-        number: u32,
+        aim: Aim,
         bounds: Bounds,
     },
+}
+
+/// What is written of a witness: all of it, or its start heap alone, or its steps alone.
+#[derive(Clone, Copy, Debug, PartialEq, Eq)]
+pub enum Piece {
+    Whole,
+    Start,
+    Trace,
+}
+
+/// A message, by its number among those of the edge's action, and what is written of its witness.
+#[derive(Clone, Copy, Debug, PartialEq, Eq)]
+pub struct Aim {
+    pub edge: u32,
+    pub number: u32,
+    pub piece: Piece,
 }
 
 /// How far witnesses are searched: how many individuals a heap may have, if the words say so, and how many
@@ -384,6 +399,19 @@ fn told_bounds(asked: &AskedLine<'_, '_>) -> Option<Bounds>
     Some(Bounds { cells, states })
 }
 
+/// What is to be written of a witness, by how often `--start-only` and `--trace-only` stand.
+fn piece_of(start_only: u8, trace_only: u8) -> Option<Piece>
+    ensures some { IfSome result (ArePieces start_only trace_only) }
+    ensures none { IfNone result ((piece : Piece) → ¬ ArePieces start_only trace_only piece) }
+{
+    match (start_only, trace_only) {
+        (0, 0) => Some(Piece::Whole),
+        (1, 0) => Some(Piece::Start),
+        (0, 1) => Some(Piece::Trace),
+        _ => None,
+    }
+}
+
 /// The command of the name `witness` that the line says.
 fn witness(alloc: Global, asked_line: &AskedLine<'_, '_>) -> Result<Option<Command>, AllocError>
     ensures some { IfOk result (λ found. IfSome found
@@ -401,6 +429,9 @@ fn witness(alloc: Global, asked_line: &AskedLine<'_, '_>) -> Result<Option<Comma
     let Some(number) = number(message) else {
         return Ok(None);
     };
+    let Some(piece) = piece_of(asked_line.start_only, asked_line.trace_only) else {
+        return Ok(None);
+    };
     if has_values(asked_line.line.max) {
         return Ok(None);
     }
@@ -410,12 +441,12 @@ fn witness(alloc: Global, asked_line: &AskedLine<'_, '_>) -> Result<Option<Comma
     let Some(of) = asked(alloc, line, program, initial)? else {
         return Ok(None);
     };
-    Ok(Some(Command::Witness {
-        of,
+    let aim = Aim {
         edge,
         number,
-        bounds,
-    }))
+        piece,
+    };
+    Ok(Some(Command::Witness { of, aim, bounds }))
 }
 
 /// The command of that name that the line says, if it is none that searches heaps.
@@ -451,6 +482,9 @@ fn said_without(
     ensures none { IfOk result (λ found. IfNone found (NoneAskedBy name.now (asked_in asked.now))) }
 {
     if has_values(asked.cells) || has_values(asked.states) {
+        return Ok(None);
+    }
+    if asked.start_only != 0 || asked.trace_only != 0 {
         return Ok(None);
     }
     said(alloc, name, &asked.line)

@@ -1,17 +1,18 @@
 -- What is told of a message.
-use Rattle.std.specs.Prelude.{ℕ, ◌≡◌, true, false, List, ◌++◌, Option, None, Some, All, slice_get, ⊤}
+use Rattle.std.specs.Prelude.{ℕ, ◌≡◌, true, false, List, Option, None, Some, slice_get, ⊤}
+use Rattle.tv_explain_words.specs.declared.words.Piece.{Piece}
 use Rattle.tv_model.specs.declared.program.Edge.{Edge}
 use Rattle.tv_model.specs.declared.program.Mode.{Mode}
 use Rattle.tv_model.specs.declared.program.Program.{Program}
 use Rattle.tv_model.specs.declared.program.Vocab.{Vocab}
 use Rattle.tv_model.specs.Program.{MessageForm, program_of}
-use Rattle.tv_structure_form.specs.StructureForm.{StructureForm, IsOver}
+use Rattle.tv_structure_form.specs.StructureForm.{StructureForm}
 use Rattle.tv_heap_search.specs.Answers.{AnswersFewest, IsCauseOfNone}
 use Rattle.tv_heap_search.specs.declared.error.Unanswered.{Unanswered}
 use Rattle.tv_heap_search.specs.declared.fewest.Fewest.{Fewest}
 use Rattle.tv_witness_laws.specs.Laws.{asks_message}
 use Rattle.tv_witness_laws.specs.Witness.{Question}
-use Rattle.tv_witness_text.specs.Runs.{none_line, run_text, true_line}
+use Rattle.tv_witness_text.specs.Runs.{IsWitnessOver, none_line, piece_text}
 use Rattle.tv_witness_text.specs.declared.answer.Searched.{Searched}
 use Rattle.tv_witness_text.specs.declared.answer.WitnessReport.{WitnessReport}
 
@@ -37,19 +38,18 @@ abbrev pub question_along : Task → Edge → MessageForm → Question
 question_along task taken message =
     asks_message (program_of task.program) task.mode task.initial task.cells taken message
 
--- the structures that are written are over the vocabulary
+-- what is written is over the vocabulary
 abbrev pub IsFoundOver : Vocab → Option Fewest → Type 0
 IsFoundOver vocab None = ⊤
-IsFoundOver vocab (Some found) =
-    IsOver vocab found.witness.track.start × All (λ leg. IsOver vocab leg.heap) found.witness.track.legs
+IsFoundOver vocab (Some found) = IsWitnessOver vocab found.witness
 
--- the run of the witness and the line of the message, or the line that there is none
-abbrev pub TellsAnswer : Task → (edge number : ℕ) → (text : List ℕ) → Option Fewest → WitnessReport → Type 0
-TellsAnswer task edge number text None report =
+-- what is to be written of the witness, or the line that there is none
+abbrev pub TellsAnswer : Task → (edge number : ℕ) → (text : List ℕ) → Piece → Option Fewest → WitnessReport
+    → Type 0
+TellsAnswer task edge number text piece None report =
     (report.text.items ≡ none_line task.cells) × (report.is_found ≡ false)
-TellsAnswer task edge number text (Some found) report =
-    (report.text.items ≡ run_text task.program.vocab task.heads found.witness
-    ++ true_line task.heads edge number text)
+TellsAnswer task edge number text piece (Some found) report =
+    (report.text.items ≡ piece_text task.program.vocab task.heads edge number text piece found.witness)
     × (report.is_found ≡ true)
 
 -- the edge has that number
@@ -57,11 +57,11 @@ abbrev pub IsEdgeAt : Task → (edge : ℕ) → Edge → Type 0
 IsEdgeAt task edge taken = slice_get (program_of task.program).edges edge ≡ Some taken
 
 -- a witness of fewest cells, and among these of fewest steps, is told, or that there is none
-abbrev pub IsWitnessReport : Task → (edge number : ℕ) → MessageForm → WitnessReport → Type 0
-IsWitnessReport task edge number message report =
+abbrev pub IsWitnessReport : Task → (edge number : ℕ) → Piece → MessageForm → WitnessReport → Type 0
+IsWitnessReport task edge number piece message report =
     (taken : Edge) × IsEdgeAt task edge taken × ((found : Option Fewest)
     × AnswersFewest (question_along task taken message) found
-    × TellsAnswer task edge number message.text found report)
+    × TellsAnswer task edge number message.text piece found report)
 
 -- why neither is told
 abbrev pub IsCauseOfNoReport : Task → (edge : ℕ) → MessageForm → Unanswered → Type 0

@@ -1,6 +1,7 @@
 //! What is told of a message: a witness, or that there is none of so few cells.
 
 ghost use Rattle.std.specs.Prelude.{◌≡◌, ◌<◌, ◌^◌, All, IfErr, IfOk, length};
+ghost use Rattle.tv_heap_steps.specs.Settled.{AreAllSettled};
 ghost use Rattle.tv_model.specs.Program.{message_of, program_of};
 ghost use Rattle.tv_model.specs.Valid.{IsValid};
 ghost use Rattle.tv_step_laws.specs.Sound.{IsMessageOf};
@@ -8,10 +9,10 @@ ghost use Rattle.tv_structure_form.specs.StructureForm.{IsOver};
 ghost use Rattle.tv_witness_text.specs.Reports.{IsFoundOver, IsWitnessReport, TellsAnswer};
 ghost use Rattle.tv_witness_text.specs.Reports.{IsCauseOfNoReport, task_of};
 
-use crate::runs::{Sentence, no_witness_text, witness_text};
+use crate::runs::{Wanted, none_text, piece_text};
 use std::alloc::{AllocError, Global};
-use tv_heap_search::{Fewest, Goal, Request, Unanswered, witness_of_fewest_cells};
-use tv_model::{Bytes, Message, Mode, Program};
+use tv_heap_search::{Fewest, Goal, Request, Target, Unanswered, witness_of_fewest_cells};
+use tv_model::{Bytes, Mode, Program};
 use tv_struct::Structures;
 
 /// Where witnesses are searched: a program whose edges have these heads, a mode, initial structures, how many
@@ -39,28 +40,28 @@ fn told(
     alloc: Global,
     x: &Searched<'_>,
     found: &Option<Fewest>,
-    sentence: &Sentence<'_>,
+    wanted: &Wanted<'_>,
 ) -> Result<WitnessReport, AllocError>
     requires valid { IsValid (program_of x.now.program.now) }
     requires over { IsFoundOver x.now.program.now.vocab found.now }
     ensures { IfOk result
-        (TellsAnswer (task_of x.now) sentence.now.edge sentence.now.number sentence.now.text.now
-        found.now) }
+        (TellsAnswer (task_of x.now) wanted.now.edge wanted.now.number wanted.now.message.now.text
+        wanted.now.piece found.now) }
 {
     match found {
         None => Ok(WitnessReport {
-            text: no_witness_text(alloc, x.cells)?,
+            text: none_text(alloc, x.cells)?,
             is_found: false,
         }),
         Some(fewest) => Ok(WitnessReport {
-            text: witness_text(alloc, x.program, x.heads, &fewest.witness, sentence)?,
+            text: piece_text(alloc, x.program, x.heads, &fewest.witness, wanted)?,
             is_found: true,
         }),
     }
 }
 
-/// What is told of the message of this number among those of the edge's action: a witness of as few cells as
-/// any, and among these of as few steps, or that there is none with at most so many cells.
+/// What is told of the message: a witness of as few cells as any, and among these of as few steps, or that
+/// there is none with at most so many cells.
 ///
 /// # Errors
 /// `Free` exactly where an action of the program leaves a predicate free. `TooMany` where more heaps of so
@@ -69,33 +70,32 @@ fn told(
 pub fn explain_witness(
     alloc: Global,
     x: &Searched<'_>,
-    edge: u32,
-    number: u32,
-    message: &Message,
+    wanted: &Wanted<'_>,
 ) -> Result<WitnessReport, Unanswered>
     requires valid { IsValid (program_of x.now.program.now) }
     requires initial { All (IsOver x.now.program.now.vocab) x.now.initial.now }
     requires few { length x.now.initial.now < 2 ^ 32 }
     requires cells { x.now.cells < 256 }
-    requires message { IsMessageOf (program_of x.now.program.now) edge number (message_of message.now) }
-    ensures report { IfOk result (IsWitnessReport (task_of x.now) edge number (message_of message.now)) }
-    ensures cause { IfErr result (IsCauseOfNoReport (task_of x.now) edge (message_of message.now)) }
+    requires message { IsMessageOf (program_of x.now.program.now) wanted.now.edge wanted.now.number
+        (message_of wanted.now.message.now) }
+    ensures report { IfOk result (IsWitnessReport (task_of x.now) wanted.now.edge wanted.now.number
+        wanted.now.piece (message_of wanted.now.message.now)) }
+    ensures settled { IfOk result (λ report. AreAllSettled (program_of x.now.program.now).actions) }
+    ensures cause { IfErr result (IsCauseOfNoReport (task_of x.now) wanted.now.edge
+        (message_of wanted.now.message.now)) }
 {
-    let node = x.program.edges.as_slice()[edge as usize].from;
     let request = Request {
         alloc,
         program: x.program,
         initial: x.initial,
         mode: x.mode,
-        node,
         cells: x.cells,
         most: x.most,
     };
-    let found = witness_of_fewest_cells(&request, &Goal::Makes(&message.cond))?;
-    let sentence = Sentence {
-        edge,
-        number,
-        text: message.text.as_slice(),
+    let target = Target {
+        node: x.program.edges.as_slice()[wanted.edge as usize].from,
+        goal: Goal::Makes(&wanted.message.cond),
     };
-    Ok(told(alloc, x, &found, &sentence)?)
+    let found = witness_of_fewest_cells(&request, &target)?;
+    Ok(told(alloc, x, &found, wanted)?)
 }

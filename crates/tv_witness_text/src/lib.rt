@@ -7,4 +7,4 @@ mod runs;
 
 pub use answer::{Searched, WitnessReport, explain_witness};
 pub use cells::cells_for;
-pub use runs::{Sentence, no_witness_text, witness_text};
+pub use runs::{Wanted, none_text, piece_text};

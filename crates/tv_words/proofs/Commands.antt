@@ -18,7 +18,7 @@ use Rattle.tv_words.proofs.Reading.{one_line}
 -- ---- counts that stop at 255
 
 -- such a count tells whether there is one use, or none
-few_uses : (found uses n : ℕ) → min found 255 ≡ min uses 255 → found ≡ n → n ≤ 1 → uses ≡ n
+pub few_uses : (found uses n : ℕ) → min found 255 ≡ min uses 255 → found ≡ n → n ≤ 1 → uses ≡ n
 few_uses found uses n same is few = omega arith
 
 recomputes_few : (mode : Mode) → recomputes mode ≤ 1

@@ -8,6 +8,8 @@ mod values;
 mod words;
 
 pub use laws::one_command;
-pub use line::{Line, command_line, read_line, told_line};
+pub use line::{
+    Line, bare_line, command_line, flag, operands, read_line, setting, texts, told_line,
+};
 pub use values::{four, has_values, max_of, one, two, updating};
 pub use words::{Command, has_no_flags, read_words};

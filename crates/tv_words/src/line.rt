@@ -11,7 +11,7 @@ use clap::{Arg, ArgAction, ArgMatches, Command};
 use std::alloc::{AllocError, Global};
 
 /// The argument that takes all operands.
-fn operands<'a>(alloc: Global) -> Arg<'a>
+pub fn operands<'a>(alloc: Global) -> Arg<'a>
     ensures rule { rule_of result ≡ operand_rule }
     ensures local { result.global ≡ false }
 {
@@ -19,7 +19,7 @@ fn operands<'a>(alloc: Global) -> Arg<'a>
 }
 
 /// The argument of an option without a value. It counts how often the option stands.
-fn flag<'a>(alloc: Global, name: &'a str) -> Arg<'a>
+pub fn flag<'a>(alloc: Global, name: &'a str) -> Arg<'a>
     ensures rule { rule_of result ≡ flag_rule name.entry.now }
     ensures local { result.global ≡ false }
 {
@@ -27,7 +27,7 @@ fn flag<'a>(alloc: Global, name: &'a str) -> Arg<'a>
 }
 
 /// The argument of an option with a value. It takes all values.
-fn setting<'a>(alloc: Global, name: &'a str) -> Arg<'a>
+pub fn setting<'a>(alloc: Global, name: &'a str) -> Arg<'a>
     ensures rule { rule_of result ≡ setting_rule name.entry.now }
     ensures local { result.global ≡ false }
 {
@@ -35,7 +35,7 @@ fn setting<'a>(alloc: Global, name: &'a str) -> Arg<'a>
 }
 
 /// A command whose line takes nothing yet.
-fn bare_line<'a>(alloc: Global, name: &'a str) -> Command<'a>
+pub fn bare_line<'a>(alloc: Global, name: &'a str) -> Command<'a>
     ensures { app_of result ≡ bare_app name.entry.now }
 {
     Command::new(alloc, name)
@@ -78,7 +78,7 @@ pub fn read_line<'a>(
 }
 
 /// The texts that were found for an argument, in order, if there are any.
-fn texts<'m, 'a>(matches: &'m ArgMatches<'a>, id: &str) -> Option<&'m [&'a str]>
+pub fn texts<'m, 'a>(matches: &'m ArgMatches<'a>, id: &str) -> Option<&'m [&'a str]>
     ensures { told_texts result ≡ texts_in matches.now id.now }
 {
     matches.get_raw(id)

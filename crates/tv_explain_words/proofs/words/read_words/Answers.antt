@@ -1,17 +1,17 @@
 use Rattle.std.proofs.Common.{◌≡◌, ◌∙◌, ◌∷◌, codes, ap, refl, subst, sym}
 use Rattle.std.specs.Prelude.{IfNone, IfOk, IfSome}
 use Rattle.tv_words.specs.Setup.{HasLine, Reads}
-use Rattle.tv_words.specs.Words.{line_flags, words_of}
-use Rattle.tv_explain_words.specs.Words.{AskedForm, IsAskedBy, NoneAskedBy, asked_settings, form_of}
+use Rattle.tv_words.specs.Words.{words_of}
+use Rattle.tv_explain_words.specs.Words.{AskedForm, IsAskedBy, NoneAskedBy, asked_flags, asked_settings, form_of}
 use Rattle.tv_explain_words.proofs.Commands.{none_without_line, spelled, unspelled}
 use Rattle.tv_explain_words.proofs.words.read_words.Goals as goal
 
 pub returns-in_default-2-clause-none : goal.returns-in_default-2-clause-none
 returns-in_default-2-clause-none c =
     let behind = words_of c.in-Some.behind.now in
-    let reads = c.in_ok-matches.ensures (codes "tvla") line_flags asked_settings refl c.in_ok-asked_command.ensures in
+    let reads = c.in_ok-matches.ensures (codes "tvla") asked_flags asked_settings refl c.in_ok-asked_command.ensures in
     none_without_line _ (words_of c.args.words.now) behind (ap words_of c.in-Some.ensures.cases.0)
-    (subst (Reads line_flags asked_settings behind) c.in_default-2.is reads)
+    (subst (Reads asked_flags asked_settings behind) c.in_default-2.is reads)
 
 pub returns-clause-some : goal.returns-clause-some
 returns-clause-some c =
@@ -19,9 +19,9 @@ returns-clause-some c =
     let name = c.as_str.result.now in
     let whole : words_of c.args.words.now ≡ name ∷ behind =
     ap words_of c.in-Some.ensures.cases.0 ∙ ap (λ n. n ∷ behind) (sym c.as_str.ensures.value) in
-    let reads = c.in_ok-matches.ensures (codes "tvla") line_flags asked_settings refl c.in_ok-asked_command.ensures in
-    let line : HasLine line_flags asked_settings behind c.in-Some-2.matches =
-    subst (Reads line_flags asked_settings behind) c.in-Some-2.is reads in
+    let reads = c.in_ok-matches.ensures (codes "tvla") asked_flags asked_settings refl c.in_ok-asked_command.ensures in
+    let line : HasLine asked_flags asked_settings behind c.in-Some-2.matches =
+    subst (Reads asked_flags asked_settings behind) c.in-Some-2.is reads in
     spelled name (words_of c.args.words.now) behind whole c.in-Some-2.matches line c.said_by.result
     (subst (λ (l : AskedForm). IfOk c.said_by.result (λ found. IfSome found (λ command. IsAskedBy name l (form_of command))))
     c.told_asked.ensures c.said_by.ensures.some)
@@ -32,8 +32,8 @@ returns-clause-none c =
     let name = c.as_str.result.now in
     let whole : words_of c.args.words.now ≡ name ∷ behind =
     ap words_of c.in-Some.ensures.cases.0 ∙ ap (λ n. n ∷ behind) (sym c.as_str.ensures.value) in
-    let reads = c.in_ok-matches.ensures (codes "tvla") line_flags asked_settings refl c.in_ok-asked_command.ensures in
-    let line : HasLine line_flags asked_settings behind c.in-Some-2.matches =
-    subst (Reads line_flags asked_settings behind) c.in-Some-2.is reads in
+    let reads = c.in_ok-matches.ensures (codes "tvla") asked_flags asked_settings refl c.in_ok-asked_command.ensures in
+    let line : HasLine asked_flags asked_settings behind c.in-Some-2.matches =
+    subst (Reads asked_flags asked_settings behind) c.in-Some-2.is reads in
     unspelled name (words_of c.args.words.now) behind whole c.in-Some-2.matches line c.said_by.result
     (subst (λ (l : AskedForm). IfOk c.said_by.result (λ found. IfNone found (NoneAskedBy name l))) c.told_asked.ensures c.said_by.ensures.none)
