@@ -34,7 +34,7 @@ const MARKED: Row<'static, 'static, 'static, 'static> = Row {
     ..PLAIN
 };
 
-pub static WITNESSES: [Row<'static, 'static, 'static, 'static>; 6] = [
+pub static WITNESSES: [Row<'static, 'static, 'static, 'static>; 9] = [
     // two individuals are needed, and two steps
     Row {
         words: &["witness", "p", "i", "1", "0"],
@@ -47,8 +47,26 @@ edge 1  p:7  L0 Ask ( ) L1  message 0 is true: \"two\"
         ..MARKED
     },
     Row {
+        words: &["witness", "--start-only", "p", "i", "1", "0"],
+        code: 1,
+        out: "%n = {i0, i1}\n%p = {\n  x = {i0, i1}\n}\n",
+        ..MARKED
+    },
+    Row {
+        words: &["witness", "p", "i", "1", "0", "--trace-only"],
+        code: 1,
+        out: "step 0 (0)\nstep 0 (1)\n",
+        ..MARKED
+    },
+    Row {
         words: &["witness", "p", "i", "1", "0", "--cells=1"],
         out: "no witness with at most 1 cells\n",
+        ..MARKED
+    },
+    // where there is none, no start heap and no trace is written
+    Row {
+        words: &["witness", "p", "i", "1", "0", "--cells", "0", "--trace-only"],
+        out: "no witness with at most 0 cells\n",
         ..MARKED
     },
     // 2 more than the one of the initial structure are fewer than 4

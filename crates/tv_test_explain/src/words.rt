@@ -59,7 +59,11 @@ witness p i 0 0 --cells
 witness p i 0 0 --cells 256
 witness p i 0 0 --cells 01
 witness p i 0 0 --cells 1 --cells 2
-witness p i 0 0 --max-states 4294967296";
+witness p i 0 0 --max-states 4294967296
+witness p i 0 0 --start-only --start-only
+witness p i 0 0 --start-only --trace-only
+message p i 0 0 --start-only
+losses p i --trace-only";
 
 /// Words that name what isn't there, and what is told of them.
 const ABSENT: &str = "message p i 4 0;no such edge

@@ -1,3 +1,5 @@
+mod Written
 mod Over
 mod Legs
 mod Asked
+mod Replayed

@@ -1,3 +1,4 @@
 pub mod Runs
 pub mod Reports
 pub mod Cells
+pub mod Laws

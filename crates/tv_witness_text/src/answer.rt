@@ -6,6 +6,7 @@ ghost use Rattle.tv_model.specs.Program.{message_of, program_of};
 ghost use Rattle.tv_model.specs.Valid.{IsValid};
 ghost use Rattle.tv_step_laws.specs.Sound.{IsMessageOf};
 ghost use Rattle.tv_structure_form.specs.StructureForm.{IsOver};
+ghost use Rattle.tv_tvs.specs.Laws.{IsWritable};
 ghost use Rattle.tv_witness_text.specs.Reports.{IsFoundOver, IsWitnessReport, TellsAnswer};
 ghost use Rattle.tv_witness_text.specs.Reports.{IsCauseOfNoReport, task_of};
 
@@ -14,6 +15,7 @@ use std::alloc::{AllocError, Global};
 use tv_heap_search::{Fewest, Goal, Request, Target, Unanswered, witness_of_fewest_cells};
 use tv_model::{Bytes, Mode, Program};
 use tv_struct::Structures;
+use tv_tvs::valid_programs_fit;
 
 /// Where witnesses are searched: a program whose edges have these heads, a mode, initial structures, how many
 /// individuals a heap may have, and how many heaps may be met for each number of individuals.
@@ -42,7 +44,7 @@ fn told(
     found: &Option<Fewest>,
     wanted: &Wanted<'_>,
 ) -> Result<WitnessReport, AllocError>
-    requires valid { IsValid (program_of x.now.program.now) }
+    requires fit { IsWritable x.now.program.now.vocab }
     requires over { IsFoundOver x.now.program.now.vocab found.now }
     ensures { IfOk result
         (TellsAnswer (task_of x.now) wanted.now.edge wanted.now.number wanted.now.message.now.text
@@ -67,6 +69,7 @@ fn told(
 /// `Free` exactly where an action of the program leaves a predicate free. `TooMany` where more heaps of so
 /// many cells were met, or more structures had to be split, than are allowed: with fewer cells there is no
 /// witness. Or memory ran out.
+#[tactic(auto, using(crate::proofs::Asked::message_goal, crate::proofs::Asked::message_edge, crate::proofs::Over::found_over))]
 pub fn explain_witness(
     alloc: Global,
     x: &Searched<'_>,
@@ -84,6 +87,7 @@ pub fn explain_witness(
     ensures cause { IfErr result (IsCauseOfNoReport (task_of x.now) wanted.now.edge
         (message_of wanted.now.message.now)) }
 {
+    valid_programs_fit();
     let request = Request {
         alloc,
         program: x.program,

@@ -3,8 +3,10 @@
 
 mod answer;
 mod cells;
+mod laws;
 mod runs;
 
 pub use answer::{Searched, WitnessReport, explain_witness};
 pub use cells::cells_for;
+pub use laws::witnesses_are_replayed;
 pub use runs::{Wanted, none_text, piece_text};

@@ -3,10 +3,9 @@
 ghost use Rattle.std.specs.Prelude.{◌≡◌, ◌≤◌, ◌++◌, All, IfOk, IfSome, OnOk, length, map};
 ghost use Rattle.tv_edge_heads.specs.Heads.{head_at};
 ghost use Rattle.tv_explain_text.specs.Texts.{numbered_edge};
-ghost use Rattle.tv_model.specs.Program.{program_of};
-ghost use Rattle.tv_model.specs.Valid.{IsValid};
 ghost use Rattle.tv_structure_form.specs.StructureForm.{IsOver};
 ghost use Rattle.tv_trace_text.specs.Text.{trace_text};
+ghost use Rattle.tv_tvs.specs.Laws.{IsWritable};
 ghost use Rattle.tv_witness_text.specs.Runs.{leg_line, leg_lines, none_line, piece_text};
 ghost use Rattle.tv_witness_text.specs.Runs.{IsWitnessOver, true_line, whole_text};
 
@@ -101,7 +100,7 @@ fn whole_text(
     witness: &Witness,
     wanted: &Wanted<'_>,
 ) -> Result<Vec<u8>, AllocError>
-    requires valid { IsValid (program_of program.now) }
+    requires fit { IsWritable program.now.vocab }
     requires start { IsOver program.now.vocab witness.now.track.start }
     requires legs { All (λ leg. IsOver program.now.vocab leg.heap) witness.now.track.legs }
     ensures { IfOk result (λ text. text.items ≡ whole_text program.now.vocab heads.now
@@ -118,9 +117,8 @@ fn whole_text(
 
 /// The steps of a witness, as a trace.
 fn steps_text(alloc: Global, vocab: &Vocab, legs: &[Leg]) -> Result<Vec<u8>, AllocError>
+    requires fit { IsWritable vocab.now }
     requires over { All (λ leg. IfSome leg.step.values (IsOver vocab.now)) legs.now }
-    requires arities { All (λ pred. pred.arity ≤ 2) vocab.now.preds }
-    requires count { length vocab.now.preds ≤ 512 }
     ensures { IfOk result (λ text. text.items ≡ trace_text vocab.now (map (λ leg. leg.step) legs.now)) }
 {
     let mut out = Vec::new(alloc);
@@ -142,7 +140,7 @@ pub fn piece_text(
     witness: &Witness,
     wanted: &Wanted<'_>,
 ) -> Result<Vec<u8>, AllocError>
-    requires valid { IsValid (program_of program.now) }
+    requires fit { IsWritable program.now.vocab }
     requires over { IsWitnessOver program.now.vocab witness.now }
     ensures { IfOk result (λ text. text.items ≡ piece_text program.now.vocab heads.now
         wanted.now.edge wanted.now.number wanted.now.message.now.text wanted.now.piece witness.now) }
