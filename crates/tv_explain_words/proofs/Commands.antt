@@ -15,7 +15,7 @@ use Rattle.tv_explain_words.specs.Words.{AnalyzedForm, CommandForm, Shows, Lists
 use Rattle.tv_explain_words.specs.Words.{TellsStructure, TellsLosses, Compiles, HasOptions, IsNumber}
 use Rattle.tv_explain_words.specs.Words.{TakesStep, TellsPlan, TellsCounts, Completes, IsPlain, Says}
 use Rattle.tv_explain_words.specs.Words.{TellsWitness, AskedForm, Asks, BoundsForm}
-use Rattle.tv_explain_words.specs.Words.{ArePieces, IsAskedBy, IsAskedOn, IsCells, IsStates, NoneAskedBy}
+use Rattle.tv_explain_words.specs.Words.{ArePieces, HasNoSearch, IsAskedBy, IsAskedOn, IsCells, IsStates, NoneAskedBy}
 use Rattle.tv_explain_words.specs.Words.{SaysBounds, SaysPiece, asked_flags, asked_of, asked_settings, piece_for}
 use Rattle.tv_explain_words.specs.Words.{told_asked}
 use Rattle.tv_explain_words.specs.declared.words.Piece.{Piece}
@@ -102,12 +102,8 @@ module _ (a b : AskedForm) (alike : AreAskedAlike a b) where
 
 -- ---- commands that search no heaps
 
--- no option of searches stands
-abbrev HasNone : AskedForm → Type 0
-HasNone asked = (asked.cells ≡ []) × (asked.states ≡ []) × ArePieces asked.start_only asked.trace_only Whole
-
 module _ (name : List ℕ) (asked : AskedForm) (other : name ≡ codes "witness" → ⊥) where
-  no_options : (command : CommandForm) → command_word command ≡ name → HasNone asked
+  no_options : (command : CommandForm) → command_word command ≡ name → HasNoSearch asked
       → SaysBounds asked command × SaysPiece asked command
   no_options (Shows program report) named (x, y, z) = ((x, y), z)
   no_options (ListsEdges program) named (x, y, z) = ((x, y), z)
@@ -122,7 +118,7 @@ module _ (name : List ℕ) (asked : AskedForm) (other : name ≡ codes "witness"
   no_options (TellsWitness of aim bounds) named none = absurd (other (sym named))
 
   options_none : (command : CommandForm) → command_word command ≡ name
-      → SaysBounds asked command × SaysPiece asked command → HasNone asked
+      → SaysBounds asked command × SaysPiece asked command → HasNoSearch asked
   options_none (Shows program report) named ((x, y), z) = (x, y, z)
   options_none (ListsEdges program) named ((x, y), z) = (x, y, z)
   options_none (TellsMessage of edge number) named ((x, y), z) = (x, y, z)
@@ -136,10 +132,10 @@ module _ (name : List ℕ) (asked : AskedForm) (other : name ≡ codes "witness"
   options_none (TellsWitness of aim bounds) named none = absurd (other (sym named))
 
   -- an option stands that the command doesn't have
-  pub none_with_options : (HasNone asked → ⊥) → NoneAskedBy name asked
+  pub none_with_options : (HasNoSearch asked → ⊥) → NoneAskedBy name asked
   none_with_options some command is = some (options_none command is.0 (is.1.1, is.1.2))
 
-  pub asked_without : {E : Type 0} (r : Result (Option Command) E) → HasNone asked
+  pub asked_without : {E : Type 0} (r : Result (Option Command) E) → HasNoSearch asked
       → IfOk r (λ found. IfSome found (λ command. IsSaid name asked.line (form_of command)))
       → IfOk r (λ found. IfSome found (λ command. IsAskedBy name asked (form_of command)))
   asked_without (Ok (Some command)) none is =

@@ -217,6 +217,10 @@ abbrev pub SaysBounds : AskedForm → CommandForm → Type 0
 SaysBounds asked (TellsWitness of aim bounds) = HasBounds asked bounds
 SaysBounds asked other = (asked.cells ≡ []) × (asked.states ≡ [])
 
+-- no option of searches stands
+abbrev pub HasNoSearch : AskedForm → Type 0
+HasNoSearch asked = (asked.cells ≡ []) × (asked.states ≡ []) × ArePieces asked.start_only asked.trace_only Whole
+
 -- a line says a command
 abbrev pub Asks : AskedForm → CommandForm → Type 0
 Asks asked command = Says asked.line command × SaysBounds asked command × SaysPiece asked command

@@ -1,8 +1,8 @@
 //! The words after the program's name.
 
-ghost use Rattle.std.specs.Prelude.{◌≡◌, ℕ, List, [], ◌∷◌, IfOk, IfSome, IfNone, Option, codes};
-ghost use Rattle.tv_explain_words.specs.Words.{ArePieces, BoundsForm, HasBounds, IsAskedBy, IsCells};
-ghost use Rattle.tv_explain_words.specs.Words.{IsStates, NoneAskedBy, asked_in, bounds_of};
+ghost use Rattle.std.specs.Prelude.{◌≡◌, ◌↔◌, ℕ, List, [], ◌∷◌, IfOk, IfSome, IfNone, IsTrue, Option, codes};
+ghost use Rattle.tv_explain_words.specs.Words.{ArePieces, BoundsForm, HasBounds, HasNoSearch, IsAskedBy};
+ghost use Rattle.tv_explain_words.specs.Words.{IsCells, IsStates, NoneAskedBy, asked_in, bounds_of};
 ghost use Rattle.tv_explain_words.specs.declared.words.Piece.{Piece};
 ghost use Rattle.tv_words.specs.Setup.{line_in, told_texts};
 ghost use Rattle.tv_words.specs.Words.{words_of};
@@ -470,7 +470,18 @@ fn said(alloc: Global, name: &str, line: &Line<'_, '_>) -> Result<Option<Command
     }
 }
 
+/// Whether no option of searches stands.
+fn has_no_search(asked: &AskedLine<'_, '_>) -> bool
+    ensures { IsTrue result ↔ HasNoSearch (asked_in asked.now) }
+{
+    !has_values(asked.cells)
+        && !has_values(asked.states)
+        && asked.start_only == 0
+        && asked.trace_only == 0
+}
+
 /// The command of that name that the line says, which isn't `witness`.
+#[tactic(auto, using(crate::proofs::Commands::none_with_options, crate::proofs::Commands::asked_without, crate::proofs::Commands::unasked_without))]
 fn said_without(
     alloc: Global,
     name: &str,
@@ -481,10 +492,7 @@ fn said_without(
         (λ found. IfSome found (SaidOf (IsAskedBy name.now (asked_in asked.now)))) }
     ensures none { IfOk result (λ found. IfNone found (NoneAskedBy name.now (asked_in asked.now))) }
 {
-    if has_values(asked.cells) || has_values(asked.states) {
-        return Ok(None);
-    }
-    if asked.start_only != 0 || asked.trace_only != 0 {
+    if !has_no_search(asked) {
         return Ok(None);
     }
     said(alloc, name, &asked.line)
