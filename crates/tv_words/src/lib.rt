@@ -11,5 +11,5 @@ pub use laws::one_command;
 pub use line::{
     Line, bare_line, command_line, flag, operands, read_line, setting, texts, told_line,
 };
-pub use values::{four, has_values, max_of, one, two, updating};
+pub use values::{four, has_values, max_of, one, stands, two, updating};
 pub use words::{Command, has_no_flags, read_words};
