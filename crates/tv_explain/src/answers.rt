@@ -259,6 +259,7 @@ fn losses_answer(alloc: Global, inputs: &Inputs, of: &Analyzed) -> Result<Answer
 }
 
 /// What is told of the message that is searched for: a witness, or that there is none.
+#[tactic(auto, using(crate::proofs::Searches::search_lack, crate::proofs::Searches::message_of_edge))]
 fn witness_answer(
     alloc: Global,
     inputs: &Inputs,
