@@ -14,7 +14,7 @@ use Rattle.tv_trace.specs.declared.trace.Move.{Move}
 use Rattle.tv_tvs.specs.Targets.{IsRead}
 use Rattle.tv_witness_laws.specs.Witness.{Question, with_cells}
 use Rattle.tv_heap_search.specs.Answers.{AnswersFewest, IsShortestWitness}
-use Rattle.tv_heap_search.specs.Retraced.{HasValuesFor, heaps_of, moves_of}
+use Rattle.tv_heap_search.specs.Retraced.{HasValuesFor, heaps_along, moves_of}
 use Rattle.tv_heap_search.specs.declared.fewest.Fewest.{Fewest}
 use Rattle.tv_heap_search.specs.declared.retrace.Leg.{Leg}
 use Rattle.tv_heap_search.specs.declared.witness.Witness.{Witness}
@@ -49,7 +49,7 @@ module _ (program : Program) (valid : IsValid (program_of program)) where
       let later : All (HasArities ns) (map (λ (z : State). z.heap) shown.replay.later)
       = later_over q.program ns shown.replay.first (moves_of w.track) shown.replay.later shown.replay.goes_on
       (subst (HasArities ns) (sym shown.replay.begins.heap) start) in
-      let heaps : heaps_of w.track ≡ map (λ (z : State). z.heap) shown.replay.later
+      let heaps : heaps_along w.track ≡ map (λ (z : State). z.heap) shown.replay.later
       = shown.heaps ∙ ap (map (λ (z : State). z.heap)) same in
       record {
         start = start;

@@ -4,7 +4,7 @@ use Rattle.std.proofs.Common.{arith}
 use Rattle.std.proofs.lemmas.List.{get_or_past}
 use Rattle.std.proofs.lemmas.List.Elements.{All-cons, All-head, All-nil, All-tail}
 use Rattle.tv_heap_search.specs.Answers.{IsShortestWitness}
-use Rattle.tv_heap_search.specs.Retraced.{heaps_of, moves_of}
+use Rattle.tv_heap_search.specs.Retraced.{heaps_along, moves_of}
 use Rattle.tv_heap_search.specs.declared.witness.Witness.{Witness}
 use Rattle.tv_listing.specs.ListingForm.{at_node}
 use Rattle.tv_model.specs.Program.{ProgramForm, program_of}

@@ -1,7 +1,7 @@
 -- Laws of written witnesses, as statements.
 use Rattle.std.specs.Prelude.{ℕ, ◌≡◌, List, [], ◌∷◌, Some, Ok, map}
 use Rattle.tv_heap_search.specs.Answers.{IsShortestWitness}
-use Rattle.tv_heap_search.specs.Retraced.{heaps_of, moves_of}
+use Rattle.tv_heap_search.specs.Retraced.{heaps_along, moves_of}
 use Rattle.tv_heap_search.specs.declared.witness.Witness.{Witness}
 use Rattle.tv_lex.specs.Pieces.{Reads}
 use Rattle.tv_lex.specs.Token.{spec_tokens}
@@ -44,7 +44,7 @@ pub record Confirms (q : Question) (w : Witness) (first : State) (later : List S
   pub number : w.initial ≡ above.structure
   pub accepted : IsAcceptedReplay q.mode first later
   pub start : first.heap ≡ w.track.start
-  pub heaps : map (λ (z : State). z.heap) later ≡ heaps_of w.track
+  pub heaps : map (λ (z : State). z.heap) later ≡ heaps_along w.track
   pub node : (last_shown first later).node ≡ q.node
   pub aim : IsAimedAt q.aim (heap_of (last_shown first later).heap)
 

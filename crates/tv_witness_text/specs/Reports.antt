@@ -1,13 +1,15 @@
 -- What is told of a message.
-use Rattle.std.specs.Prelude.{ℕ, ◌≡◌, true, false, List, Option, None, Some, slice_get, ⊤}
+use Rattle.std.specs.Prelude.{ℕ, ◌≡◌, ◌<◌, ◌^◌, true, false, List, Option, None, Some, All, length}
+use Rattle.std.specs.Prelude.{slice_get, ⊤}
 use Rattle.tv_explain_words.specs.declared.words.Piece.{Piece}
 use Rattle.tv_model.specs.declared.program.Edge.{Edge}
 use Rattle.tv_model.specs.declared.program.Mode.{Mode}
 use Rattle.tv_model.specs.declared.program.Program.{Program}
 use Rattle.tv_model.specs.declared.program.Vocab.{Vocab}
 use Rattle.tv_model.specs.Program.{MessageForm, program_of}
-use Rattle.tv_structure_form.specs.StructureForm.{StructureForm}
-use Rattle.tv_heap_search.specs.Answers.{AnswersFewest, IsCauseOfNone}
+use Rattle.tv_model.specs.Valid.{IsValid}
+use Rattle.tv_structure_form.specs.StructureForm.{IsOver, StructureForm}
+use Rattle.tv_heap_search.specs.Answers.{AnswersFewest, IsCauseUnanswered}
 use Rattle.tv_heap_search.specs.declared.error.Unanswered.{Unanswered}
 use Rattle.tv_heap_search.specs.declared.fewest.Fewest.{Fewest}
 use Rattle.tv_witness_laws.specs.Laws.{asks_message}
@@ -32,6 +34,14 @@ task_of x = record {
   mode = x.mode;
   cells = x.cells;
 }
+
+-- a search can be made: the program is valid, the initial structures are over its predicates and not too many,
+-- and heaps have place for one individual more
+pub record CanSearch (x : Searched) : Type 0 where
+  pub valid : IsValid (program_of x.program.now)
+  pub initial : All (IsOver x.program.now.vocab) x.initial.now
+  pub few : length x.initial.now < 2 ^ 32
+  pub cells : x.cells < 256
 
 -- what is asked of a message of an edge: a run to the edge's source, whose last heap makes its condition true
 abbrev pub question_along : Task → Edge → MessageForm → Question
@@ -66,4 +76,4 @@ IsWitnessReport task edge number piece message report =
 -- why neither is told
 abbrev pub IsCauseOfNoReport : Task → (edge : ℕ) → MessageForm → Unanswered → Type 0
 IsCauseOfNoReport task edge message e =
-    (taken : Edge) × IsEdgeAt task edge taken × IsCauseOfNone (question_along task taken message) e
+    (taken : Edge) × IsEdgeAt task edge taken × IsCauseUnanswered (question_along task taken message) e

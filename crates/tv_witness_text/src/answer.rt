@@ -1,14 +1,12 @@
 //! What is told of a message: a witness, or that there is none of so few cells.
 
-ghost use Rattle.std.specs.Prelude.{◌≡◌, ◌<◌, ◌^◌, All, IfErr, IfOk, length};
+ghost use Rattle.std.specs.Prelude.{IfErr, IfOk};
 ghost use Rattle.tv_heap_steps.specs.Settled.{AreAllSettled};
 ghost use Rattle.tv_model.specs.Program.{message_of, program_of};
-ghost use Rattle.tv_model.specs.Valid.{IsValid};
 ghost use Rattle.tv_step_laws.specs.Sound.{IsMessageOf};
-ghost use Rattle.tv_structure_form.specs.StructureForm.{IsOver};
 ghost use Rattle.tv_tvs.specs.Laws.{IsWritable};
-ghost use Rattle.tv_witness_text.specs.Reports.{IsFoundOver, IsWitnessReport, TellsAnswer};
-ghost use Rattle.tv_witness_text.specs.Reports.{IsCauseOfNoReport, task_of};
+ghost use Rattle.tv_witness_text.specs.Reports.{CanSearch, IsCauseOfNoReport, IsFoundOver, IsWitnessReport};
+ghost use Rattle.tv_witness_text.specs.Reports.{TellsAnswer, task_of};
 
 use crate::runs::{Wanted, none_text, piece_text};
 use std::alloc::{AllocError, Global};
@@ -75,10 +73,7 @@ pub fn explain_witness(
     x: &Searched<'_>,
     wanted: &Wanted<'_>,
 ) -> Result<WitnessReport, Unanswered>
-    requires valid { IsValid (program_of x.now.program.now) }
-    requires initial { All (IsOver x.now.program.now.vocab) x.now.initial.now }
-    requires few { length x.now.initial.now < 2 ^ 32 }
-    requires cells { x.now.cells < 256 }
+    requires search { CanSearch x.now }
     requires message { IsMessageOf (program_of x.now.program.now) wanted.now.edge wanted.now.number
         (message_of wanted.now.message.now) }
     ensures report { IfOk result (IsWitnessReport (task_of x.now) wanted.now.edge wanted.now.number
