@@ -1,5 +1,5 @@
 -- From what stands on a line to the command that it says, or to none.
-use Rattle.std.proofs.Common.{◌≡◌, ◌∙◌, ℕ, false, refl, sym, ap, ap₂, subst, arith, List, [], ◌∷◌, length, min}
+use Rattle.std.proofs.Common.{◌≡◌, ◌∙◌, ℕ, false, refl, sym, ap, ap₂, subst, arith, List, [], ◌∷◌, min}
 use Rattle.std.specs.Prelude.{codes, drop, Option, Some, None, Result, Ok, Err, IfOk, IfSome, IfNone}
 use Rattle.std.specs.List.{slice_index_or}
 use Rattle.std.proofs.lemmas.Fmt.{decimal_injective}
@@ -14,7 +14,7 @@ use Rattle.tv_words.proofs.Reading.{one_line}
 use Rattle.tv_explain_words.specs.Words.{AnalyzedForm, CommandForm, Shows, ListsEdges, TellsMessage}
 use Rattle.tv_explain_words.specs.Words.{TellsStructure, TellsLosses, Compiles, HasOptions, IsNumber}
 use Rattle.tv_explain_words.specs.Words.{TakesStep, TellsPlan, TellsCounts, Completes, IsPlain, Says}
-use Rattle.tv_explain_words.specs.Words.{TellsWitness, AskedForm, Asks, BoundsForm}
+use Rattle.tv_explain_words.specs.Words.{TellsWitness, AskedForm, Asks}
 use Rattle.tv_explain_words.specs.Words.{ArePieces, HasNoSearch, IsAskedBy, IsAskedOn, IsCells, IsStates, NoneAskedBy}
 use Rattle.tv_explain_words.specs.Words.{SaysBounds, SaysPiece, asked_flags, asked_of, asked_settings, piece_for}
 use Rattle.tv_explain_words.specs.Words.{told_asked}
