@@ -24,8 +24,11 @@ const decoded = text => new TextDecoder().decode(Uint8Array.from(text, letter =>
 export class Explanation {
   steps = []; // of a chain: a title, and a structure, an edge or a message
   edges = []; // with their numbers, files, lines and messages
+  rules = []; // behind the edges: of each what is told, a predicate's declaration or a file and line
   nodes = []; // with structures
   losses = [];
+  isNone = false; // whether it says that nothing is lost
+  passed = ""; // the line that says that not all is listed
   stages = new Stages(); // of a step
   census = new Census();
   /** What the text says; what isn't in the grammar is a `Fault`. */
@@ -36,9 +39,9 @@ export class Explanation {
     return explanation;
   }
   static KINDS = [["chain", "initial "], ["losses", "initial "], ["losses", "edge "], ["edges", "edge "],
-    ["losses", "node "], ["show", "node "], ["losses", "nothing is lost"], ["chain", "no message"], ["stages", "stage "]];
+    ["losses", "node "], ["show", "node "], ["losses", "nothing is lost"], ["losses", "more than "], ["chain", "no message"], ["stages", "stage "]];
   line(line) {
-    const isLoss = / has no opening, by | loses \d| lists nothing$|^nothing is lost$/.test(line.source.slice(line.at, line.end));
+    const isLoss = / has no opening| loses \d| finds nothing at hand of \d| isn't reached$|^nothing is lost$|^more than \d+ structures; of those listed until then:$/.test(line.source.slice(line.at, line.end));
     const begins = ([kind, word]) => line.sees(word) && isLoss === (kind === "losses");
     this.kind ??= Explanation.KINDS.find(begins)?.[0];
     switch (this.kind) {
@@ -63,6 +66,7 @@ export class Explanation {
     const isFirst = !this.steps.length, start = line.at, last = this.steps.at(-1);
     if (last?.message && line.skips("at hand")) return this.steps.push({ title: "at hand", structure: line.structure(), isAtHand: true });
     if (last?.message || last?.isAtHand) line.fault("no line behind a message and what raises it", start);
+    if (last?.edge && line.skips("  unknown ")) return this.risen(line, last);
     line.take(isFirst ? "initial " : "edge ");
     const number = line.number("a number"), step = { number, isInitial: isFirst };
     if (!isFirst) {
@@ -73,6 +77,12 @@ export class Explanation {
     if (!isFirst && line.sees("  message ")) step.message = this.raised(line);
     else step.structure = line.structure();
     this.steps.push(step);
+  }
+  /** A predicate that is unknown at more tuples than before the step. */
+  risen(line, step) {
+    const [, name, more, by] = line.match(/([A-Za-z_]\w*(?:\[[\w,]*\])?) \+([1-9]\d*) by (update|blur)/y, "a predicate, at how many more tuples it is unknown, and by what");
+    if (!line.isAtEnd) line.fault("the end of the line");
+    (step.risen ??= []).push({ name, more: Number(more), by });
   }
   raised(line) {
     line.take("  message ");
@@ -96,11 +106,21 @@ export class Explanation {
       last.messages.push(this.string(line));
       return;
     }
+    if (last && (this.rules.length || line.sees("rule "))) return this.rule(line);
     line.take("edge ");
     const start = line.at, number = line.number(`\`${this.edges.length}\``);
     if (number !== this.edges.length) line.fault(`edge ${this.edges.length}`, start);
     line.take("  ");
     this.edges.push({ number, ...this.head(line), messages: [] });
+    if (!line.isAtEnd) line.fault("the end of the line");
+  }
+  rule(line) {
+    line.take("rule ");
+    const start = line.at, number = line.number(`\`${this.rules.length}\``);
+    if (number !== this.rules.length) line.fault(`rule ${this.rules.length}`, start);
+    line.take("  ");
+    this.rules.push(decoded(line.match(/the declaration of [A-Za-z_]\w*(?:\[[\w,]*\])?|.+?:[1-9]\d*(?=[\r\n]|$)/y,
+      "`the declaration of NAME` or `FILE:LINE`")[0]));
     if (!line.isAtEnd) line.fault("the end of the line");
   }
   shown(line) {
@@ -121,23 +141,41 @@ export class Explanation {
   }
   loss(line) {
     const text = decoded(line.source.slice(line.at, line.end)), loss = { text };
-    if (line.skips("nothing is lost")) return line.isAtEnd || line.fault("the end of the line");
-    if (line.skips("initial ")) {
-      loss.initial = line.number("the number of an initial structure");
-      line.match(/ has no opening, by (?:the declaration of [A-Za-z_]\w*(?:\[[\w,]*\])?|rule \d+|declarations together)/y,
-        "` has no opening, by ` and a declaration");
-    } else if (line.skips("node ")) {
-      loss.node = line.word("a node");
-      line.take(" lists nothing");
-    } else {
-      line.take("edge ");
-      loss.edge = line.number("the number of an edge");
-      const [, lost, listed, first] =
-        line.match(/ loses (\d+) of (\d+) structures, first (\d+) {2}/y, "` loses LOST of LISTED structures, first PLACE`");
-      Object.assign(loss, { lost: Number(lost), listed: Number(listed), first: Number(first), head: this.head(line) });
+    if (!this.losses.length && !this.passed && line.sees("more than ")) return void (this.passed = text);
+    if (line.sees("case ")) return void (this.losses.at(-1)?.short || line.fault("a line of losses")); // structures of a lost case
+    if (!this.losses.length && !this.isNone && line.skips("nothing is lost")) {
+      this.isNone = true;
+      return line.isAtEnd || line.fault("the end of the line");
     }
+    if (line.skips("node ")) {
+      loss.node = line.word("a node");
+      line.take(" isn't reached");
+    } else if (this.isNone || this.losses.at(-1)?.node) line.fault("`node `");
+    else if (line.skips("initial ")) {
+      loss.initial = line.number("the number of an initial structure");
+      line.take(" has no opening");
+      this.claim(line);
+    } else this.edgeLoss(line, loss);
     if (!line.isAtEnd) line.fault("the end of the line");
     this.losses.push(loss);
+  }
+  claim(line) {
+    line.take(", by ");
+    return line.match(/the (?:declaration|update) of [A-Za-z_]\w*(?:\[[\w,]*\])?|rule \d+|(?:declarations|updates) together/y, "a declaration or an update")[0];
+  }
+  /** Cases that are lost along an edge, or structures of which nothing is at hand there. */
+  edgeLoss(line, loss) {
+    line.take("edge ");
+    loss.edge = line.number("the number of an edge");
+    const [, count, all] = line.match(/ (?:loses|finds nothing at hand of) (\d+) of (\d+)/y, "` loses LOST of CASES cases` or ` finds nothing at hand of COUNT of LISTED structures`");
+    if (line.skips(" structures")) loss.short = `finds nothing at hand of ${count} of ${all} structures`;
+    else {
+      line.take(" cases, first structure ");
+      loss.first = line.number("the place of a structure");
+      loss.short = `loses ${count} of ${all} cases, by ${this.claim(line)}`;
+    }
+    line.take("  ");
+    loss.head = this.head(line);
   }
 }
 

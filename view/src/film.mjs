@@ -12,8 +12,8 @@ export const PALETTE = ["#9ecae8", "#f7c27a", "#a6d8a8", "#e8a8c8", "#f3e27a", "
 
 /** The frames of a chain of tvla-explain; a message is shown at the structure in front of it. */
 export const chainFrames = (chain, hasEdges) => {
-  const frames = chain.steps.map(({ title, edge, structure, message }) =>
-    ({ title, structure, message, edge: hasEdges ? edge?.number : undefined }));
+  const frames = chain.steps.map(({ title, edge, structure, message, risen = [] }) => ({ title, structure, message,
+    words: risen.map(({ name, more, by }) => `${name} unknown at ${more} more by ${by}`), edge: hasEdges ? edge?.number : undefined }));
   frames.forEach((frame, i) => {
     if (frame.message) frame.structure = frames[i - 1]?.structure;
   });

@@ -157,8 +157,7 @@ export const Page = {
     const warned = new Map(), losses = this.given.explanations.get("losses")?.explanation.losses ?? [];
     for (const { edge, value, text } of this.report?.messages ?? [])
       warned.set(edge, [...warned.get(edge) ?? [], `message ${Kleene.text(value)}: ${text}`]);
-    for (const { edge, lost, listed } of losses)
-      if (edge !== undefined) warned.set(edge, [...warned.get(edge) ?? [], `loses ${lost} of ${listed}`]);
+    for (const { edge, short } of losses) if (edge !== undefined) warned.set(edge, [...warned.get(edge) ?? [], short]);
     this.graph = new ControlGraph(this.names, this.edges, name => this.count(name), warned, byId("graph"));
     const hint = this.edges.length || !this.report ? "" : "Open the program's text, too, to see its edges.";
     const files = this.structures.map(({ listing, file }) => html("li", {},
@@ -229,15 +228,16 @@ export const Page = {
     return [html("h2", { textContent: `Compared: ${first} and ${other}` }), html("ul", {}, list(first, left), list(other, right))];
   },
   lossLines() {
-    const losses = this.given.explanations.get("losses")?.explanation.losses;
-    if (!losses) return [];
-    if (!losses.length) return [html("p", { textContent: "Nothing is lost." })];
-    return [html("h2", { textContent: `Losses: ${losses.length}` }), html("ul", {}, ...losses.map(loss => this.lossLine(loss)))];
+    const found = this.given.explanations.get("losses")?.explanation;
+    if (!found) return [];
+    const count = found.losses.filter(({ node }) => !node).length;
+    return [...found.passed ? [html("p", { textContent: found.passed })] : [], count ? html("h2", { textContent: `Losses: ${count}` }) : html("p", { textContent: "Nothing is lost." }),
+      html("ul", {}, ...found.losses.map(loss => this.lossLine(loss)))];
   },
   lossLine({ text, node, head, first }) {
-    const item = html("li", {}, text), name = node ?? head?.source;
+    const item = html("li", node ? { className: "plain" } : {}, text), name = node ?? head?.source;
     if (name && this.names.includes(name))
-      item.append(" – ", link(Links.structure(name, first ?? 0), head ? `${name}/${first}` : name));
+      item.append(" – ", link(Links.structure(name, first ?? 0), head ? `${name}/${first ?? 0}` : name));
     return item;
   },
   /** What check said, with a link to the structure of which it speaks. */

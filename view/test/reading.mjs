@@ -241,10 +241,14 @@ test("what isn't in the grammar of lines is refused with line and column", async
     ["initial 0  (x&y)\nedge 0  p:2  L0 Go ( ) L1  (y&x)", "line 2, column 29: expected `x&y)`, found `y&x)`"],
     ["edge 0 p:2  L0 Go ( ) L1", "column 7: expected `  `, found ` p:2  L0 Go ( ) L1`"],
     ["edge 0  p:2  L0 Go() L1", "column 9: expected `FILE:LINE`, two blanks and an edge, found `p:2  L0 Go() L1`"],
+    ["edge 0  p:2  L0 Go ( ) L1\nrule 1  p:2", "line 2, column 6: expected rule 0, found `1  p:2`"],
+    ["edge 0  p:2  L0 Go ( ) L1\nrule 0  p", "line 2, column 9: expected `the declaration of NAME` or `FILE:LINE`, found `p`"],
     ["edge 1  p:2  L0 Go ( ) L1", "column 6: expected edge 0, found `1  p:2  L0 Go ( ) L1`"],
     ["node L structures 1\n1  (x)", "line 2, column 1: expected place 0 of node L, found `1  (x)`"],
     ["node L lists", "column 7: expected ` structures `, found ` lists`"],
-    ["nothing is lost\nedge 0 loses 1 of 2", "line 2, column 7: expected ` loses LOST of LISTED structures, first PLACE`, found ` loses 1 of 2`"],
+    ["nothing is lost\nedge 0 loses 1 of 2", "line 2, column 1: expected `node `, found `edge 0 loses 1 of 2`"],
+    ["edge 0 loses 1 of 2", "column 20: expected ` cases, first structure `, found the end of the line"],
+    ["node L isn't reached\ninitial 0 has no opening, by rule 1", "line 2, column 1: expected `node `, found `initial 0 has no opening, by rule 1`"],
     ["what is this", "column 1: expected a line of tvla-explain, found `what is this`"],
   ];
   const told = await Promise.all(rows.map(([text]) => faultOf(text, text => Explanation.read(bytesOf(text)))));
@@ -262,6 +266,12 @@ test("the chain of docs/TUTORIAL.md is read, and written back byte for byte", ()
     ["chain", 9, text, { number: 2, file: "pairs.tvp", line: 28, source: "L3", target: "L4", call: "y_is_y_n()",
       text: "pairs.tvp:28  L3 y_is_y_n ( ) L4" }, 3]];
 });
+test("what became unknown at the steps of a chain is read", () => {
+  const text = "initial 0  (#0)  (x&y)\nedge 0  p:2  L Clear ( ) M  ((#0&x?))\n  unknown x +1 by blur\n  unknown r[n,x] +12 by update\n"
+    + "edge 1  p:3  M Say ( ) N  message 0 is 1/2: \"some\"\nat hand  ((#0&x?))\n", { kind, steps } = Explanation.read(bytesOf(text));
+  return [[kind, steps.length, steps[1].risen, steps[2].message.text, steps[3].isAtHand],
+    ["chain", 4, [{ name: "x", more: 1, by: "blur" }, { name: "r[n,x]", more: 12, by: "update" }], "some", true]];
+});
 test("the edges of docs/TUTORIAL.md are read", () => {
   const { kind, edges } = Explanation.read(bytesOf(block("edge 0  examples")));
   return [[kind, edges.map(({ number, line, source, call, target, messages }) => [number, line, source, call, target, messages])],
@@ -269,11 +279,26 @@ test("the edges of docs/TUTORIAL.md are read", () => {
       [1, 10, "L2", "Get_Next_L(y, y)", "L3", ["null dereference of y", "dangling pointer y"]],
       [2, 11, "L3", "uninterpreted()", "L2", []], [3, 12, "L3", "uninterpreted()", "L4", []]]]];
 });
+test("rules behind the edges are read", () => {
+  const { kind, edges, rules } = Explanation.read(bytesOf("edge 0  p:2  L0 Go ( ) L1\n  message 0 \"a\"\nrule 0  the declaration of r[n,x]\nrule 1  sub/more:12\n"));
+  return [[kind, edges.length, rules], ["edges", 1, ["the declaration of r[n,x]", "sub/more:12"]]];
+});
 test("the losses of docs/TUTORIAL.md are read, and `nothing is lost`", () => {
-  const { kind, losses } = Explanation.read(bytesOf(block("node L2 lists nothing"))), [first, , , last] = losses;
-  const none = Explanation.read(bytesOf("nothing is lost\n"));
-  return [[kind, losses.length, first.node, last.edge, last.lost, last.listed, last.first, last.head.source, none.kind, none.losses],
-    ["losses", 4, "L2", 0, 1, 1, 0, "L1", "losses", []]];
+  const { kind, losses } = Explanation.read(bytesOf(block("edge 0 loses"))), [first] = losses;
+  const none = Explanation.read(bytesOf("nothing is lost\nnode error isn't reached\n"));
+  return [[kind, first.edge, first.first, first.head.source, first.short.replace(/rule \d+/, "rule J"), losses.slice(1).map(({ node }) => node), none.kind, none.isNone, none.losses.map(({ node }) => node)],
+    ["losses", 0, 0, "L1", "loses 1 of 1 cases, by rule J", ["L2", "L3", "L4"], "losses", true, ["error"]]];
+});
+test("of an edge both lines of losses are read, with each claim", () => {
+  const head = "  p.tvp:9  L1 f ( ) L2\n", claims = ["the update of r[n,x]", "the declaration of n", "rule 5", "updates together", "declarations together"];
+  return [Explanation.read(bytesOf(claims.map((claim, i) => `edge ${i} loses 3 of 7 cases, first structure 2, by ${claim}${head}`).join("")
+    + `edge 9 finds nothing at hand of 1 of 5 structures${head}`)).losses.map(({ edge, short }) => `${edge}: ${short}`),
+  [...claims.map((claim, i) => `${i}: loses 3 of 7 cases, by ${claim}`), "9: finds nothing at hand of 1 of 5 structures"]];
+});
+test("lines of lost cases, and that not all is listed, are read", () => {
+  const { passed, isNone, losses } = Explanation.read(bytesOf("more than 5 structures; of those listed until then:\nedge 0 loses 1 of 1 cases, first structure 0, by rule 0  p.tvp:9  L1 f ( ) L2\n"
+    + "case of structure 0, by rule 0\ncase   at hand  (x)\ncase   given 0  (y)\n"));
+  return [[passed, isNone, losses.map(({ edge }) => edge)], ["more than 5 structures; of those listed until then:", false, [0]]];
 });
 test("initial structures that are lost are read", () => [
   Explanation.read(bytesOf("initial 0 has no opening, by the declaration of r[n,x]\ninitial 1 has no opening, by rule 3\n"

@@ -107,14 +107,14 @@ const TESTS = {
     await call("drop", [file("edges", block("edge 0  examples").replace("program.tvp:10", "program.tvp:11"))]);
     found.push(await texts("#notice"));
     await call("forget");
-    await call("drop", [...example("silent_loss"), file("losses", block("node L2 lists nothing"))]);
+    await call("drop", [...example("silent_loss"), file("losses", block("edge 0 loses"))]);
     found.push((await texts("#messages h2"))[1], (await texts("#messages li")).length, await call("count", ".graph path.warned"), (await texts("#notice"))[0]);
     await call("forget");
     await call("paste", "nothing is lost\n");
     await call("paste", "node L0 structures 0\nnode L1 structures 2\n0  (x&t?)-n->(#1)  (#1)-n?->((t))  ((t))  b?\n1\n");
     found.push((await texts("#messages p"))[0], await texts(".card > p"));
     return [found, [["L1 · empty", "L2 · empty", "L3 · empty", "L4 · empty"], 4, true, [""],
-      ["program.tvp isn't taken, since it doesn't fit: edge 1 stands in line 11, and in line 10 of the program."], "Losses: 4", 4, 1, "",
+      ["program.tvp isn't taken, since it doesn't fit: edge 1 stands in line 11, and in line 10 of the program."], "Losses: 1", 4, 1, "",
       "Nothing is lost.", ["(x&t?)-n->(#1)  (#1)-n?->((t))  ((t))  b?", "no individuals"]]];
   },
   "a replay is drawn at the structures of the report": async () => {

@@ -1,4 +1,3 @@
 mod Alike
 mod Meanings
-mod Noted
 mod Turns

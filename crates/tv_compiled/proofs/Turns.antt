@@ -3,7 +3,7 @@ use Rattle.std.proofs.Common.{◌≡◌, ℕ, ◌+◌, ◌<◌, ◌≤◌, List,
 use Rattle.std.proofs.Common.{get_or, sym, ◌∙◌, ap, append_assoc}
 use Rattle.std.specs.List.{flat_map}
 use Rattle.std.specs.Prelude.{codes}
-use Rattle.std.proofs.lemmas.List.{drop_more, drop_all, append-nil}
+use Rattle.std.proofs.lemmas.List.{drop_all, append-nil}
 use Rattle.std.proofs.lemmas.List.Concat.{flat_map-cons}
 use Rattle.tv_model.specs.Form.{form_of}
 use Rattle.tv_model.specs.Program.{PredForm, message_of, pred_of, rule_of, update_of}
@@ -16,11 +16,7 @@ use Rattle.tv_model.specs.declared.program.Update.{Update}
 use Rattle.tv_formula_text.specs.Formulas.{form_text}
 use Rattle.tv_compiled.specs.Parts.{message_text, more_text, pred_text, rule_text, update_text}
 use Rattle.tv_compiled.specs.Whole.{edge_text}
-
--- what is left of a list is its next item and what is left behind it
-pub rest_at : {T : Type 0} (xs : List T) (i : ℕ) (x : T) → i < length xs → x ≡ get_or xs i x
-    → drop i xs ≡ x ∷ drop (i + 1) xs
-rest_at xs i x below is = drop_more xs i x below ∙ ap (λ y. y ∷ drop (i + 1) xs) (sym is)
+use Rattle.tv_notes.proofs.Noted.{rest_at}
 
 -- the text of one more item of a list
 step : {S T : Type 0} (out : List ℕ) (see : S → T) (text : T → List ℕ) (xs : List S) (i : ℕ) (x : S) → i < length xs

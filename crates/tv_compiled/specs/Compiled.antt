@@ -7,7 +7,7 @@ use Rattle.tv_model.specs.declared.program.Program.{Program}
 use Rattle.tv_texts.specs.Meaning.{MeansProgram}
 use Rattle.tv_texts.specs.declared.fault.TextFault.{TextFault}
 use Rattle.tv_texts.specs.declared.fault.TextFault.TheVariants.{Memory as NoMemory}
-use Rattle.tv_compiled.specs.Notes.{program_notes}
+use Rattle.tv_notes.specs.Notes.{program_notes}
 use Rattle.tv_compiled.specs.Whole.{program_text}
 use Rattle.tv_compiled.specs.declared.error.CompiledError.{CompiledError}
 use Rattle.tv_compiled.specs.declared.error.CompiledError.TheVariants.{TooLong, Differs, Memory}

@@ -1,4 +1,3 @@
 pub mod Compiled
-pub mod Notes
 pub mod Parts
 pub mod Whole

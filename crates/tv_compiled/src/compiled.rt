@@ -7,17 +7,17 @@ ghost use Rattle.tv_lex.specs.Token.{spec_tokens};
 ghost use Rattle.tv_model.specs.Program.{program_of};
 ghost use Rattle.tv_texts.specs.Meaning.{MeansProgram};
 ghost use Rattle.tv_compiled.specs.Compiled.{IsCause, answer_of, written};
-ghost use Rattle.tv_compiled.specs.Notes.{program_notes};
+ghost use Rattle.tv_notes.specs.Notes.{program_notes};
 ghost use Rattle.tv_compiled.specs.Whole.{program_text};
 ghost use Rattle.tv_compiled.specs.declared.error.CompiledError.TheVariants.{Memory};
 
 use crate::error::CompiledError;
-use crate::notes::program_notes;
 use crate::program::program_text;
 use crate::same::is_same_program;
 use std::alloc::{AllocError, Global};
 use tv_lex::{MAX_TEXT, Tokens};
 use tv_model::Program;
+use tv_notes::program_notes;
 use tv_texts::{TextFault, one_meaning_each, program_in};
 
 /// A text that is refused means no program.

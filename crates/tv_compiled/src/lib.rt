@@ -4,7 +4,6 @@
 
 mod compiled;
 mod error;
-mod notes;
 mod parts;
 mod program;
 mod same;

@@ -2,3 +2,4 @@ mod Marks
 mod Plain
 mod Lines
 mod Written
+mod Edges

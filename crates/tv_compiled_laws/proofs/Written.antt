@@ -3,7 +3,7 @@ use Rattle.std.proofs.Common.{ℕ, ◌<◌, List, [], ◌∷◌, ◌++◌, lengt
 use Rattle.std.specs.Prelude.{codes, decimal}
 use Rattle.std.specs.List.{flat_map}
 use Rattle.tv_compiled.specs.Compiled.{written}
-use Rattle.tv_compiled.specs.Notes.{program_notes}
+use Rattle.tv_notes.specs.Notes.{program_notes}
 use Rattle.tv_compiled.specs.Parts.{pred_text, rule_text}
 use Rattle.tv_compiled.specs.Whole.{actions_text, edge_text, node_at, noted, program_text}
 use Rattle.tv_lex.specs.Comments.{IsWholeLines}

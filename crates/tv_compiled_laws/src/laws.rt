@@ -1,5 +1,6 @@
 //! Laws about files. The functions do nothing of their own: their clauses are what they show.
 
+ghost use Rattle.tv_compiled_laws.specs.Edges.{ActionsAreOfStatements};
 ghost use Rattle.tv_compiled_laws.specs.Gathered.{WholeTextsAreGathered};
 ghost use Rattle.tv_compiled_laws.specs.Laws.{CompiledTextsArePrograms};
 
@@ -18,3 +19,10 @@ pub fn compiled_texts_are_programs()
 {
     whole_texts_are_gathered();
 }
+
+/// Each edge of a compiled program comes from the statement that stands in its place among the statements of
+/// its source program, a test twice: its action does what that statement says, or goes that way of the test.
+#[tactic(auto, using(crate::proofs::Edges::actions_of_statements))]
+pub fn actions_are_of_statements()
+    ensures { ActionsAreOfStatements }
+{}

@@ -49,8 +49,8 @@ AreRead told (Shows program report) = (p : Program) × IsProgramFile told progra
 AreRead told (ListsEdges program) = (p : Program) × IsProgramFile told program (Ok p)
 AreRead told (TellsMessage of edge number) = (inputs : Inputs) × FilesMean told of inputs
 AreRead told (TellsStructure of node index) = (inputs : Inputs) × FilesMean told of inputs
-AreRead told (TellsLosses of) = (inputs : Inputs) × FilesMean told of inputs
-AreRead told (Compiles source) = (p : Program) × IsSourceFile told source (Ok p)
+AreRead told (TellsLosses of how) = (inputs : Inputs) × FilesMean told of inputs
+AreRead told (Compiles source updates) = (p : Program) × IsSourceFile told source (Ok p)
 AreRead told (TakesStep of edge) = (inputs : Inputs) × FilesMean told of inputs
 AreRead told (TellsPlan program mode delta) = (p : Program) × IsProgramFile told program (Ok p)
 AreRead told (TellsCounts of) = (inputs : Inputs) × FilesMean told of inputs
@@ -115,9 +115,9 @@ module _ (told : Option Held)
     not_refused (ListsEdges program) other k h refused = refused
     not_refused (TellsMessage of edge number) r k h refused = analysis_read of r k h.0 h.1 refused
     not_refused (TellsStructure of node index) r k h refused = analysis_read of r k h.0 h.1 refused
-    not_refused (TellsLosses of) r k h refused = analysis_read of r k h.0 h.1 refused
-    not_refused (Compiles source) role.Source k h refused = sources source (Ok h.0) (Err k) h.1 refused
-    not_refused (Compiles source) other k h refused = refused
+    not_refused (TellsLosses of how) r k h refused = analysis_read of r k h.0 h.1 refused
+    not_refused (Compiles source updates) role.Source k h refused = sources source (Ok h.0) (Err k) h.1 refused
+    not_refused (Compiles source updates) other k h refused = refused
     not_refused (TakesStep of edge) r k h refused = analysis_read of r k h.0 h.1 refused
     not_refused (TellsPlan program mode delta) role.Program k h refused =
         programs program (Ok h.0) (Err k) h.1 refused
@@ -167,11 +167,11 @@ module _ (told : Option Held)
     one_refusal (ListsEdges program) other s k l h j = absurd h
     one_refusal (TellsMessage of edge number) r s k l h j = one_analysis_refusal of r s k l h j
     one_refusal (TellsStructure of node index) r s k l h j = one_analysis_refusal of r s k l h j
-    one_refusal (TellsLosses of) r s k l h j = one_analysis_refusal of r s k l h j
-    one_refusal (Compiles source) role.Source role.Source k l h j =
+    one_refusal (TellsLosses of how) r s k l h j = one_analysis_refusal of r s k l h j
+    one_refusal (Compiles source updates) role.Source role.Source k l h j =
         (refl, sources source (Err k) (Err l) h j)
-    one_refusal (Compiles source) role.Source other k l h j = absurd j
-    one_refusal (Compiles source) other s k l h j = absurd h
+    one_refusal (Compiles source updates) role.Source other k l h j = absurd j
+    one_refusal (Compiles source updates) other s k l h j = absurd h
     one_refusal (TakesStep of edge) r s k l h j = one_analysis_refusal of r s k l h j
     one_refusal (TellsPlan program mode delta) role.Program role.Program k l h j =
         (refl, programs program (Err k) (Err l) h j)

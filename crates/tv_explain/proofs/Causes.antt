@@ -1,15 +1,15 @@
 -- The causes of the parts of the work, as those of a command and of a call.
-use Rattle.std.proofs.Common.{◌≡◌, ◌≤◌, ℕ, List, Option, Result, Ok, Err, inl, inr, refl, sym, subst}
-use Rattle.std.specs.Prelude.{false, IfOk, IfErr, length}
+use Rattle.std.proofs.Common.{◌≡◌, ◌≤◌, ℕ, Bool, List, Option, Result, Ok, Err, inl, inr, refl, sym, subst}
+use Rattle.std.specs.Prelude.{Bool, false, IfOk, IfErr, length}
 use Rattle.std.specs.declared.alloc.Global.{Global}
 use Rattle.std.specs.declared.vec.Vec.{Vec}
 use Rattle.tv_compiled.specs.Compiled.{IsCause as IsWritingCause}
 use Rattle.tv_compiled.specs.declared.error.CompiledError.{CompiledError}
 use Rattle.tv_compiled.specs.declared.error.CompiledError.TheVariants as compiled
 use Rattle.tv_compiled_laws.specs.Laws.{CompiledTextsArePrograms, MeansInFiles}
-use Rattle.tv_texts.specs.Sources.{IsSourceText}
 use Rattle.tv_texts.specs.declared.source.SourceText.{SourceText}
 use Rattle.tv_lex.specs.Gather.{longest_gathered}
+use Rattle.tv_losses.specs.Losses.{IsLossCause}
 use Rattle.tv_model.specs.declared.program.Program.{Program}
 use Rattle.tv_outside.specs.Told.{Held, HoldsName}
 use Rattle.tv_status.specs.declared.status.FileKind.{FileKind}
@@ -33,12 +33,16 @@ use Rattle.tv_struct.specs.declared.analysis.StageError.TheVariants as stage
 use Rattle.tv_structure_form.specs.StructureForm.{StructureForm}
 use Rattle.tv_texts.specs.Structures.{IsStructuresText}
 use Rattle.tv_texts.specs.declared.structures.StructuresText.{StructuresText}
-use Rattle.tv_explain.specs.Answers.{FilesMeanSuch, IsAnswer, IsCompiledText, IsStopped}
+use Rattle.tv_work.specs.declared.error.WorkError.{WorkError}
+use Rattle.tv_work.specs.declared.error.WorkError.TheVariants as work
+use Rattle.tv_explain.specs.Answers.{FilesMeanSuch, IsAnswer, IsCompiledText, IsStopped, Reached}
 use Rattle.tv_explain.specs.Answers.{compiled_lines}
 use Rattle.tv_explain.specs.Call.{IsAnswerTo, IsCause, IsCommandCause, IsFound, UnlessReadFault}
-use Rattle.tv_explain.specs.Faults.{fault_of_completion, fault_of_step, fault_of_text, fault_of_writing}
+use Rattle.tv_explain.specs.Faults.{fault_of_completion, fault_of_step, fault_of_text, fault_of_work}
+use Rattle.tv_explain.specs.Faults.{fault_of_writing}
 use Rattle.tv_explain.specs.Meaning.{FilesMean, IsDrawnFile, IsMissing, IsRefused, LacksInputs, drawn_form}
 use Rattle.tv_explain.specs.Meaning.{program_name}
+use Rattle.tv_explain.specs.Sources.{IsTakenText}
 use Rattle.tv_explain.specs.Work.{IsInputsCause, IsStepsStop, plain}
 use Rattle.tv_explain.specs.declared.fault.Answer.{Answer}
 use Rattle.tv_explain.specs.declared.fault.Fault.{Fault}
@@ -49,6 +53,7 @@ use Rattle.tv_explain.specs.declared.inputs.Drawn.{Drawn}
 use Rattle.tv_explain.specs.declared.inputs.Inputs.{Inputs}
 use Rattle.tv_explain_words.specs.Words.{AnalyzedForm, CommandForm, Shows, TellsLosses, TellsMessage}
 use Rattle.tv_explain_words.specs.Words.{Compiles, TellsStructure, TakesStep, TellsCounts, Completes, Spells}
+use Rattle.tv_explain_words.specs.declared.words.LossOptions.{LossOptions}
 
 -- ---- counts and steadiness
 
@@ -95,21 +100,21 @@ module _ (told : Option Held) where
   program_fault command rose steady text.Memory refused lacks h = tt
 
   -- SOURCE isn't had
-  pub source_fault : (source : List ℕ) (rose steady : Type 0) (e : TextFault)
+  pub source_fault : (source : List ℕ) (updates : Bool) (rose steady : Type 0) (e : TextFault)
       → IsFileCause role.Source (λ k. IsSourceFile told source (Err k)) (¬ HoldsName told source) rose steady e
-      → IsCommandCause told (Compiles source) rose steady (fault_of_text e)
-  source_fault source rose steady (text.Refused its k) h =
-      subst (λ r. IsRefused told (Compiles source) r k) (sym h.0) h.1
-  source_fault source rose steady text.NotRead h = h
-  source_fault source rose steady text.Memory h = tt
+      → IsCommandCause told (Compiles source updates) rose steady (fault_of_text e)
+  source_fault source updates rose steady (text.Refused its k) h =
+      subst (λ r. IsRefused told (Compiles source updates) r k) (sym h.0) h.1
+  source_fault source updates rose steady text.NotRead h = h
+  source_fault source updates rose steady text.Memory h = tt
 
   -- what SOURCE is compiled to isn't written
-  pub writing_fault : (source : List ℕ) (read : SourceText) (rose steady : Type 0) (e : CompiledError)
-      → IsSourceText told source read → IsWritingCause read.program (compiled_lines read) e
-      → IsCommandCause told (Compiles source) rose steady (fault_of_writing e)
-  writing_fault source read rose steady compiled.TooLong means h = (read, means, h)
-  writing_fault source read rose steady compiled.Differs means h = (read, means, h)
-  writing_fault source read rose steady compiled.Memory means h = tt
+  pub writing_fault : (source : List ℕ) (updates : Bool) (read : SourceText) (rose steady : Type 0) (e : CompiledError)
+      → IsTakenText told updates source read → IsWritingCause read.program (compiled_lines read) e
+      → IsCommandCause told (Compiles source updates) rose steady (fault_of_writing e)
+  writing_fault source updates read rose steady compiled.TooLong means h = (read, means, h)
+  writing_fault source updates read rose steady compiled.Differs means h = (read, means, h)
+  writing_fault source updates read rose steady compiled.Memory means h = tt
 
   -- REPORT isn't had
   pub report_fault : (program report : List ℕ) (p : Program) (rose steady late_rose late_steady : Type 0)
@@ -293,3 +298,14 @@ plain_text P (Err e) h = tt
 pub plain_cause : (P : Fault → Type 0) (r : Result (Vec ℕ Global) Fault) → IfErr r P → IfErr (plain r) P
 plain_cause P (Ok t) h = tt
 plain_cause P (Err e) h = h
+
+-- ---- losses
+
+-- why losses aren't told stops the command
+pub losses_stop : (of : AnalyzedForm) (how : LossOptions) (inputs : Inputs) (e : WorkError)
+    → IsLossCause (drawn_form inputs) of.mode inputs.initial of.max how.join e
+    → IsStopped (TellsLosses of how) of inputs (fault_of_work of.max e)
+losses_stop of how inputs work.Structures cause = (refl, cause)
+losses_stop of how inputs work.Splits cause = cause
+losses_stop of how inputs work.Individuals cause = cause
+losses_stop of how inputs work.Memory cause = tt

@@ -4,27 +4,27 @@ use Rattle.std.proofs.Common.{Result}
 use Rattle.std.proofs.Common.{Ok, Err}
 use Rattle.std.proofs.Common.{inl, inr}
 use Rattle.std.proofs.Common.{refl, sym, ap, subst, ◌∙◌, arith, ⊎_elim}
-use Rattle.std.proofs.lemmas.Option.{same_Some, slice_get_past, slice_get_within}
+use Rattle.std.proofs.lemmas.Option.{slice_get_past, slice_get_within}
 use Rattle.std.proofs.lemmas.List.Elements.{All-contains}
 use Rattle.std.specs.Prelude.{All, Contains, IsSome, IsTrue, length, slice_get}
-use Rattle.tv_compiled.specs.Compiled.{written}
 use Rattle.tv_complete_text.specs.Text.{ReadsAsStructures}
 use Rattle.tv_front.specs.Meaning.{Means}
 use Rattle.tv_heap_search.specs.Answers.{AnswersFewest}
 use Rattle.tv_heap_search.specs.declared.fewest.Fewest.{Fewest}
 use Rattle.tv_heap_steps.specs.Settled.{AreAllSettled}
-use Rattle.tv_lemmas.proofs.Options.{same_Ok}
 use Rattle.tv_lex.specs.Gather.{longest_gathered}
 use Rattle.tv_lex.specs.Pieces.{Reads}
+use Rattle.tv_lex.specs.Token.{HaveOneMeaning}
 use Rattle.tv_lex.specs.declared.token.LexError.{LexError}
 use Rattle.tv_lex.specs.declared.token.Token.{Token}
 use Rattle.tv_listing.specs.declared.analysis.Analysis.{Analysis}
-use Rattle.tv_losses.specs.Losses.{AreLosses}
+use Rattle.tv_losses.specs.Losses.{AreLosses, MeetsListed, PassesRounds}
 use Rattle.tv_losses.specs.declared.told.Losses.{Losses}
 use Rattle.tv_losses_text.specs.Reports.{AreNone}
 use Rattle.tv_model.proofs.Lists.{slice_get-contains}
 use Rattle.tv_model.specs.Heap.{Heap}
 use Rattle.tv_model.specs.Program.{MessageForm, ProgramForm, program_of}
+use Rattle.tv_model.specs.declared.program.Mode.{Mode}
 use Rattle.tv_model.specs.Run.{Stage}
 use Rattle.tv_model.specs.declared.program.Edge.{Edge}
 use Rattle.tv_model.specs.declared.program.Program.{Program}
@@ -58,11 +58,14 @@ use Rattle.tv_explain.specs.Due.{Owes, CallsWithinLimits, CanAnswer, CanBeWritte
 use Rattle.tv_explain.specs.Due.{EndsAsOwed, SearchesSuch, StandsAnyway}
 use Rattle.tv_explain.specs.Due.{HasMessage, IsAbsent, MayStand, AtLimit, IsWithinLimits, KeepsLimits}
 use Rattle.tv_explain.specs.Due.{AreReadTogether, CanBeCompleted, CannotBeCompleted, CannotWrite, KeepsEach}
-use Rattle.tv_explain.specs.Due.{KeepsItsLimits}
+use Rattle.tv_explain.specs.Due.{KeepsItsLimits, KeepsListed}
 use Rattle.tv_explain.specs.Due.{KeepsReached, LacksEdge, LacksMessage}
 use Rattle.tv_explain.specs.Due.{LacksStructure, ListsSuch, LosesSome, LosesSuch, without_details}
 use Rattle.tv_explain.specs.Faults.{ending_with}
 use Rattle.tv_explain.specs.Meaning.{FilesMean, IsRefused, drawn_form}
+use Rattle.tv_explain.specs.Sources.{IsTakenText}
+use Rattle.tv_explain.proofs.Sources.{one_text, taken_file}
+use Rattle.tv_updates.specs.Meaning.{MeansUpdated}
 use Rattle.tv_explain.specs.declared.fault.Answer.{Answer}
 use Rattle.tv_explain.specs.declared.fault.Ending.{Ending}
 use Rattle.tv_explain.specs.declared.fault.Ending.TheVariants.{As, Lost, Absent, NotWritten as Unwritable}
@@ -74,7 +77,6 @@ use Rattle.tv_explain.specs.declared.fault.Sought.TheVariants as sought
 use Rattle.tv_explain.specs.declared.fault.Unwritten.{Unwritten}
 use Rattle.tv_explain.specs.declared.fault.Unwritten.TheVariants as unwritten
 use Rattle.tv_explain.specs.declared.inputs.Inputs.{Inputs}
-use Rattle.tv_texts.specs.Sources.{IsSourceText}
 use Rattle.tv_texts.specs.Structures.{IsStructuresText}
 use Rattle.tv_texts.specs.declared.source.SourceText.{SourceText}
 use Rattle.tv_texts.specs.declared.structures.StructuresText.{StructuresText}
@@ -83,6 +85,7 @@ use Rattle.tv_explain_words.specs.Words.{AnalyzedForm, CommandForm, Shows, Lists
 use Rattle.tv_explain_words.specs.Words.{TellsStructure, TellsLosses, Compiles, TakesStep, TellsPlan}
 use Rattle.tv_explain_words.specs.declared.words.Aim.{Aim}
 use Rattle.tv_explain_words.specs.declared.words.Piece.{Piece}
+use Rattle.tv_explain_words.specs.declared.words.LossOptions.{LossOptions}
 use Rattle.tv_explain_words.specs.Words.{BoundsForm, TellsCounts, Completes, TellsWitness, Spells, SpellsNothing}
 
 -- ---- views of endings
@@ -129,7 +132,7 @@ module _ (told : Option Held) where
       → AreRead told command
   such_read (TellsMessage of edge number) P h = (h.0, h.1)
   such_read (TellsStructure of node index) P h = (h.0, h.1)
-  such_read (TellsLosses of) P h = (h.0, h.1)
+  such_read (TellsLosses of how) P h = (h.0, h.1)
   such_read (TakesStep of edge) P h = (h.0, h.1)
   such_read (TellsCounts of) P h = (h.0, h.1)
   such_read (TellsWitness of aim bounds) P h = (h.0, h.1)
@@ -140,7 +143,7 @@ module _ (told : Option Held) where
       → FilesMeanSuch told command Q
   such_also (TellsMessage of edge number) P Q f h = (h.0, h.1, f of h.0 h.2)
   such_also (TellsStructure of node index) P Q f h = (h.0, h.1, f of h.0 h.2)
-  such_also (TellsLosses of) P Q f h = (h.0, h.1, f of h.0 h.2)
+  such_also (TellsLosses of how) P Q f h = (h.0, h.1, f of h.0 h.2)
   such_also (TakesStep of edge) P Q f h = (h.0, h.1, f of h.0 h.2)
   such_also (TellsCounts of) P Q f h = (h.0, h.1, f of h.0 h.2)
   such_also (TellsWitness of aim bounds) P Q f h = (h.0, h.1, f of h.0 h.2)
@@ -160,8 +163,8 @@ structures_read told program structures AreSuch h =
     (h.0, h.1, (h.2.0.structures, structures_file told structures h.0 h.2.0 h.2.1))
 
 module _ (told : Option Held)
-    (source_read : (name : List ℕ) (read : SourceText) → IsSourceText told name read
-    → IsSourceFile told name (Ok read.program))
+    (source_read : (updates : Bool) (name : List ℕ) (read : SourceText) → IsTakenText told updates name read
+    → (p : Program) × IsSourceFile told name (Ok p))
   where
     answer_read : (command : CommandForm) (a : Answer) → IsAnswer told command a → AreRead told command
     answer_read (Shows program report) a h = (h.0.0, h.0.1, (h.0.2.0, h.0.2.1))
@@ -169,8 +172,8 @@ module _ (told : Option Held)
         let x = read_of told false program h.0.0 h.0.1 in (x.0, x.1)
     answer_read (TellsMessage of edge number) a h = (h.0.0, h.0.1)
     answer_read (TellsStructure of node index) a h = (h.0.0, h.0.1)
-    answer_read (TellsLosses of) a h = (h.0, h.1)
-    answer_read (Compiles source) a h = (h.0.0.program, source_read source h.0.0 h.0.1)
+    answer_read (TellsLosses of how) a h = (h.0, h.1)
+    answer_read (Compiles source updates) a h = source_read updates source h.0.0 h.0.1
     answer_read (TakesStep of edge) a h = (h.0.0, h.0.1)
     answer_read (TellsPlan program mode delta) a h =
         let x = read_of told delta program h.0.0 h.0.1 in (x.0, x.1)
@@ -183,8 +186,8 @@ module _ (told : Option Held)
     done_read (ListsEdges program) h = h
     done_read (TellsMessage of edge number) h = (h.0, h.1)
     done_read (TellsStructure of node index) h = (h.0, h.1)
-    done_read (TellsLosses of) h = (h.0, h.1)
-    done_read (Compiles source) h = (h.0.program, source_read source h.0 h.1)
+    done_read (TellsLosses of how) h = (h.0, h.1)
+    done_read (Compiles source updates) h = source_read updates source h.0 h.1
     done_read (TakesStep of edge) h = (h.0, h.1)
     done_read (TellsPlan program mode delta) h = h
     done_read (TellsCounts of) h = (h.0, h.1)
@@ -192,7 +195,7 @@ module _ (told : Option Held)
     done_read (TellsWitness of aim bounds) h = (h.0, h.1)
 
     some_read : (command : CommandForm) → LosesSome told command → AreRead told command
-    some_read (TellsLosses of) h = (h.0, h.1)
+    some_read (TellsLosses of how) h = (h.0, h.1)
     some_read (TellsWitness of aim bounds) h = (h.0, h.1)
     some_read other h = absurd h
 
@@ -205,13 +208,13 @@ module _ (told : Option Held)
 
     unwritten_read : (command : CommandForm) (why : Unwritten) → IsUnwritten told command why
         → AreRead told command
-    unwritten_read (Compiles source) why h = (h.0.program, source_read source h.0 h.1)
+    unwritten_read (Compiles source updates) why h = source_read updates source h.0 h.1
     unwritten_read (Completes program structures) why h = structures_read told program structures _ h
     unwritten_read other why h = absurd h
 
     unwritable_read : (command : CommandForm) (why : Unwritten) → CannotWrite told command why
         → AreRead told command
-    unwritable_read (Compiles source) why h = (h.0.program, source_read source h.0 h.1)
+    unwritable_read (Compiles source updates) why h = source_read updates source h.0 h.1
     unwritable_read (Completes program structures) why h = h.0
     unwritable_read other why h = absurd h
 
@@ -357,6 +360,22 @@ kept_reached of asked b keeps (inr (inl meets)) = (keeps meets.edge meets.at mee
 kept_reached of asked b keeps (inr (inr meets)) =
     (keeps meets.edge meets.at meets.source).individuals meets.budget
 
+-- those of what is listed, by either analysis
+kept_listed : (joined : Bool) (p : ProgramForm) (mode : Mode) (initial : List StructureForm) (max : ℕ)
+    → KeepsListed joined p mode initial max → PassesRounds p mode initial max joined
+    ⊎ (MeetsListed p mode initial (MeetsSplits p) joined ⊎ MeetsListed p mode initial (MeetsIndividuals p) joined)
+    → ⊥
+kept_listed false p mode initial max keeps (inl many) = many
+kept_listed false p mode initial max keeps (inr (inl meets)) =
+    (keeps meets.edge meets.at meets.source).splits meets.budget
+kept_listed false p mode initial max keeps (inr (inr meets)) =
+    (keeps meets.edge meets.at meets.source).individuals meets.budget
+kept_listed true p mode initial max keeps (inl (round, many)) = (keeps round).0 many
+kept_listed true p mode initial max keeps (inr (inl (round, meets))) =
+    ((keeps round).1 meets.edge meets.at meets.source).splits meets.budget
+kept_listed true p mode initial max keeps (inr (inr (round, meets))) =
+    ((keeps round).1 meets.edge meets.at meets.source).individuals meets.budget
+
 -- the budgets of steps along one edge
 kept_each : (of asked : AnalyzedForm) (edge : ℕ) (b : Inputs) → KeepsEach edge b
     → PassesLimit (TakesStep asked edge) of b → ⊥
@@ -392,9 +411,10 @@ lost_some : (is_lost : Bool) (none : Type 0) → (IsTrue is_lost ↔ (¬ none)) 
 lost_some is_lost none any is = any.1 is
 
 module _ (of : AnalyzedForm) (a b : Inputs) (same : SameInputs a b) where
-  loses : (AreSuch : Losses → Type 0) → LosesSuch of a AreSuch → LosesSuch of b AreSuch
-  loses AreSuch h = moved
-      (λ p i. (losses : Losses) → AreLosses p of.mode i of.max losses → AreSuch losses) a b same h
+  loses : (how : LossOptions) (AreSuch : Losses → Type 0) → LosesSuch of how a AreSuch
+      → LosesSuch of how b AreSuch
+  loses how AreSuch h = moved (λ p i. (losses : Losses)
+      → AreLosses p of.mode how.cases how.join i of.max losses → AreSuch losses) a b same h
 
   lists : (node : List ℕ) (AreSuch : List StructureForm → Type 0) → ListsSuch of a node AreSuch
       → ListsSuch of b node AreSuch
@@ -496,10 +516,10 @@ module _ (told : Option Held)
     → GiveOne {A = List StructureForm} ◌≡◌ (IsInitialFile told name p) (IsInitialFile told name q))
     (reports : (name : List ℕ) (p q : Program) → SameProgram p q
     → GiveOne {A = Analysis} ◌≡◌ (IsReportFile told name p) (IsReportFile told name q))
-    (source_read : (name : List ℕ) (read : SourceText) → IsSourceText told name read
-    → IsSourceFile told name (Ok read.program))
-    (texts : (name : List ℕ) (a b : SourceText) → IsSourceText told name a → IsSourceText told name b
-    → (compiled_lines a ≡ compiled_lines b) × SameProgram a.program b.program)
+    (source_read : (updates : Bool) (name : List ℕ) (read : SourceText) → IsTakenText told updates name read
+    → (p : Program) × IsSourceFile told name (Ok p))
+    (texts : (updates : Bool) (name : List ℕ) (a b : SourceText) → IsTakenText told updates name a
+    → IsTakenText told updates name b → (compiled_lines a ≡ compiled_lines b) × SameProgram a.program b.program)
   where
     same_inputs : (of : AnalyzedForm) (a b : Inputs) → FilesMean told of a → FilesMean told of b → SameInputs a b
     same_inputs of a b h k = one_inputs told programs sources initials reports of a b h k
@@ -512,15 +532,15 @@ module _ (told : Option Held)
 
     done_answer : (command : CommandForm) (a : Answer) → IsAnswer told command a → CanAnswer told command
         → a.is_lost ≡ false
-    done_answer (TellsLosses of) a h can =
+    done_answer (TellsLosses of how) a h can =
         let same = same_inputs of can.0 h.0 can.1 h.1 in
-        let none = loses of can.0 h.0 same AreNone can.3 h.2.losses h.2.are in
+        let none = loses of can.0 h.0 same how AreNone can.3 h.2.losses h.2.are in
         lost a.is_lost (AreNone h.2.losses) h.2.any none
     done_answer (Shows program report) a h can = h.1
     done_answer (ListsEdges program) a h can = h.1
     done_answer (TellsMessage of edge number) a h can = h.1
     done_answer (TellsStructure of node index) a h can = h.1
-    done_answer (Compiles source) a h can = h.1
+    done_answer (Compiles source updates) a h can = h.1
     done_answer (TakesStep of edge) a h can = h.1
     done_answer (TellsPlan program mode delta) a h can = h.1
     done_answer (TellsCounts of) a h can = h.1
@@ -536,9 +556,9 @@ module _ (told : Option Held)
 
     lost_answer : (command : CommandForm) (a : Answer) → IsAnswer told command a → LosesSome told command
         → a.is_lost ≡ true
-    lost_answer (TellsLosses of) a h some =
+    lost_answer (TellsLosses of how) a h some =
         let same = same_inputs of some.0 h.0 some.1 h.1 in
-        let such = loses of some.0 h.0 same (λ losses. ¬ AreNone losses) some.3 h.2.losses h.2.are in
+        let such = loses of some.0 h.0 same how (λ losses. ¬ AreNone losses) some.3 h.2.losses h.2.are in
         lost_some a.is_lost (AreNone h.2.losses) h.2.any such
     lost_answer (TellsWitness of aim bounds) a h some =
         let same = same_inputs of some.0 h.0 some.1 h.1 in
@@ -580,8 +600,8 @@ module _ (told : Option Held)
 
     answer_written : (command : CommandForm) (a : Answer) (why : Unwritten) → IsAnswer told command a
         → CannotWrite told command why → ⊥
-    answer_written (Compiles source) a why h lacking =
-        let both = texts source h.0.0 lacking.0 h.0.1 lacking.1 in
+    answer_written (Compiles source updates) a why h lacking =
+        let both = texts updates source h.0.0 lacking.0 h.0.1 lacking.1 in
         written_not h.0.0 lacking.0 why both.0 both.1 (can h.0.0 a.text.items h.0.2) lacking.2
       where
         can : (read : SourceText) (text : List ℕ) → IsCompiledText read text → CanBeWritten read
@@ -612,7 +632,8 @@ module _ (told : Option Held)
         kept of h.0 (kept_said of keeps.0 h.0 keeps.1 h.1 keeps.2) h.2
     within_limits (TellsStructure of node index) h keeps =
         kept of h.0 (kept_said of keeps.0 h.0 keeps.1 h.1 keeps.2) h.2
-    within_limits (TellsLosses of) h keeps = kept of h.0 (kept_said of keeps.0 h.0 keeps.1 h.1 keeps.2) h.2
+    within_limits (TellsLosses of how) h keeps = kept_listed how.join (drawn_form h.0) of.mode h.0.initial
+        of.max (as_said of (λ p i. KeepsListed how.join p of.mode i of.max) keeps.0 h.0 keeps.1 h.1 keeps.2) h.2
     within_limits (TakesStep of edge) h keeps = kept_each of of edge h.0
         (as_said of (λ p i. All (KeepsBudgets p edge) i) keeps.0 h.0 keeps.1 h.1 keeps.2) h.2
     within_limits (TellsCounts of) h keeps = kept_reached of of h.0
@@ -625,14 +646,14 @@ module _ (told : Option Held)
         within_limits (TellsMessage of edge number) h (can.0, can.1, can.2)
     done_within (TellsStructure of node index) h can =
         within_limits (TellsStructure of node index) h (can.0, can.1, can.2)
-    done_within (TellsLosses of) h can = within_limits (TellsLosses of) h (can.0, can.1, can.2)
+    done_within (TellsLosses of how) h can = within_limits (TellsLosses of how) h (can.0, can.1, can.2)
     done_within (TakesStep of edge) h can = within_limits (TakesStep of edge) h (can.0, can.1, can.2)
     done_within (TellsCounts of) h can = within_limits (TellsCounts of) h (can.0, can.1, can.2)
     done_within (TellsWitness of aim bounds) h can = kept_heaps of of aim bounds h.0 h.2
     done_within other h can = h
 
     some_within : (command : CommandForm) → Stops told command → LosesSome told command → ⊥
-    some_within (TellsLosses of) h some = within_limits (TellsLosses of) h (some.0, some.1, some.2)
+    some_within (TellsLosses of how) h some = within_limits (TellsLosses of how) h (some.0, some.1, some.2)
     some_within (TellsWitness of aim bounds) h some = kept_heaps of of aim bounds h.0 h.2
     some_within other h some = some
 
@@ -669,7 +690,7 @@ module _ (told : Option Held)
             none.2.1)
             none.2.2
         by other none = none
-    absent_done (TellsLosses of) what h can = h.2
+    absent_done (TellsLosses of how) what h can = h.2
     absent_done (TakesStep of edge) what h can =
         edge_there (drawn_form h.0) edge what
         (has_edge of can.0 h.0 (same_inputs of can.0 h.0 can.1 h.1) edge can.3)
@@ -684,7 +705,7 @@ module _ (told : Option Held)
     absent_some : (command : CommandForm) (what : Sought)
         → FilesMeanSuch told command (λ of inputs. NamesNothing command of inputs what)
         → LosesSome told command → ⊥
-    absent_some (TellsLosses of) what h some = h.2
+    absent_some (TellsLosses of how) what h some = h.2
     absent_some (TellsWitness of aim bounds) what h some =
         let same = same_inputs of some.0 h.0 some.1 h.1 in
         let such = searches of some.0 h.0 same aim.edge aim.number bounds HasWitness some.2 in
@@ -731,8 +752,8 @@ module _ (told : Option Held)
 
     unwritten_done : (command : CommandForm) (why : Unwritten) → IsUnwritten told command why
         → CanAnswer told command → ⊥
-    unwritten_done (Compiles source) why lacking can =
-        let both = texts source can.0 lacking.0 can.1 lacking.1 in
+    unwritten_done (Compiles source updates) why lacking can =
+        let both = texts updates source can.0 lacking.0 can.1 lacking.1 in
         written_not can.0 lacking.0 why both.0 both.1 can.2 lacking.2
     unwritten_done (Completes program structures) why lacking can =
         let read = lacking.2 in
@@ -741,19 +762,19 @@ module _ (told : Option Held)
 
     unwritten_some : (command : CommandForm) (why : Unwritten) → IsUnwritten told command why
         → LosesSome told command → ⊥
-    unwritten_some (Compiles source) why lacking some = some
+    unwritten_some (Compiles source updates) why lacking some = some
     unwritten_some (Completes program structures) why lacking some = some
     unwritten_some other why lacking some = lacking
 
     unwritten_absent : (command : CommandForm) (why : Unwritten) (what : Sought)
         → IsUnwritten told command why → IsAbsent told command what → ⊥
-    unwritten_absent (Compiles source) why what lacking lacks = lacks
+    unwritten_absent (Compiles source updates) why what lacking lacks = lacks
     unwritten_absent (Completes program structures) why what lacking lacks = lacks
     unwritten_absent other why what lacking lacks = lacking
 
     unwritable_such : (command : CommandForm) (why : Unwritten) (P : AnalyzedForm → Inputs → Type 0)
         → CannotWrite told command why → FilesMeanSuch told command P → ⊥
-    unwritable_such (Compiles source) why P lacking h = h
+    unwritable_such (Compiles source updates) why P lacking h = h
     unwritable_such (Completes program structures) why P lacking h = h
     unwritable_such other why P lacking h = lacking
 
@@ -922,12 +943,6 @@ call_view words told (Absent what) h = inr h
 call_view words told (Unwritable why) h = inr h
 call_view words told (Unsearched passed) h = inr h
 
--- a source program that is read
-source_file : (told : Option Held) (name : List ℕ) (read : SourceText) → IsSourceText told name read
-    → IsSourceFile told name (Ok read.program)
-source_file None name read h = tt
-source_file (Some held) name read h = (read.bytes.items, h.content, h.compiled.means)
-
 module _ (one : (words : List (List ℕ)) (a b : CommandForm) → Spells words a → Spells words b → a ≡ b)
     (reading : (text : List ℕ) (a b : Result (List Token) LexError) → Reads text a → Reads text b → a ≡ b)
     (programs : (text : List ℕ) → GiveOne SameProgram (MeansProgram text) (MeansProgram text))
@@ -936,27 +951,8 @@ module _ (one : (words : List (List ℕ)) (a b : CommandForm) → Spells words a
     → GiveOne ◌≡◌ (MeansInitial p text) (MeansInitial q text))
     (reports : (p q : Program) → SameProgram p q → (text : List ℕ)
     → GiveOne ◌≡◌ (MeansReport p text) (MeansReport q text))
+    (updated : HaveOneMeaning MeansUpdated)
   where
-    -- a name holds one source program, which has one text
-    one_text : (told : Option Held) (name : List ℕ) → IsSome told → (a b : SourceText) → IsSourceText told name a
-        → IsSourceText told name b → (compiled_lines a ≡ compiled_lines b) × SameProgram a.program b.program
-    one_text None name tells a b h k = absurd (let e = tells in cc)
-    one_text (Some held) name tells a b h k =
-        let bytes : a.bytes.items ≡ b.bytes.items
-        = same_Some a.bytes.items b.bytes.items (sym h.content ∙ k.content) in
-        let tokens : a.tokens.list.items ≡ b.tokens.list.items
-        = same_Ok a.tokens.list.items b.tokens.list.items
-        (reading a.bytes.items (Ok a.tokens.list.items) (Ok b.tokens.list.items) h.compiled.tokens
-        (subst (λ t. Reads t (Ok b.tokens.list.items)) (sym bytes) k.compiled.tokens)) in
-        let program : SameProgram a.program b.program
-        = sources a.bytes.items (Ok a.program) (Ok b.program) h.compiled.means
-        (subst (λ t. MeansSource t (Ok b.program)) (sym bytes) k.compiled.means) in
-        let lines : compiled_lines a ≡ compiled_lines b
-        = ap (λ text. written text a.tokens.list.items (program_of a.program)) bytes
-        ∙ ap (λ list. written b.bytes.items list (program_of a.program)) tokens
-        ∙ ap (λ form. written b.bytes.items b.tokens.list.items form) program in
-        (lines, program)
-
     module _ (told : Option Held) (tells : IsSome told) where
       program_files : (name : List ℕ) → GiveOne SameProgram (IsProgramFile told name) (IsProgramFile told name)
       program_files name a b h k = one_file programs told name tells a b h k
@@ -980,8 +976,8 @@ module _ (one : (words : List (List ℕ)) (a b : CommandForm) → Spells words a
           → without_details ending ≡ without_details due
       spelled_duly words ending due h calls =
           let same = one words h.0 calls.0 h.1 calls.1 in
-          command_duly told program_files source_files initial_files report_files (source_file told)
-          (λ name a b x y. one_text told name tells a b x y) calls.0 ending due
+          command_duly told program_files source_files initial_files report_files (taken_file told)
+          (λ updates name a b x y. one_text reading sources updated told updates name tells a b x y) calls.0 ending due
           (subst (λ c. EndView told c ending) same h.2) (due_view told calls.0 due calls.2.1)
 
       spelled_within : (words : List (List ℕ)) (ending : Ending)
@@ -1002,8 +998,8 @@ module _ (one : (words : List (List ℕ)) (a b : CommandForm) → Spells words a
               unlimited false limit = limit
           limited command ending (inr (inl (r, k, e, is))) keeps limit = subst AtLimit e limit
           limited command ending (inr (inr (inl (is, h)))) keeps limit =
-              within_limits told program_files source_files initial_files report_files (source_file told)
-              (λ name a b x y. one_text told name tells a b x y) command h keeps
+              within_limits told program_files source_files initial_files report_files (taken_file told)
+              (λ updates name a b x y. one_text reading sources updated told updates name tells a b x y) command h keeps
           limited command ending (inr (inr (inr (inl (what, e, h))))) keeps limit = subst AtLimit e limit
           limited command ending (inr (inr (inr (inr (why, e, lacking))))) keeps limit = subst AtLimit e limit
 

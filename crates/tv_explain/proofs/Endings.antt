@@ -27,8 +27,8 @@ module _ (told : Option Held) where
   not_missing (ListsEdges program) holds lacks = holds lacks
   not_missing (TellsMessage of edge number) holds lacks = inputs_not_missing of holds lacks
   not_missing (TellsStructure of node index) holds lacks = inputs_not_missing of holds lacks
-  not_missing (TellsLosses of) holds lacks = inputs_not_missing of holds lacks
-  not_missing (Compiles source) holds lacks = lacks holds
+  not_missing (TellsLosses of how) holds lacks = inputs_not_missing of holds lacks
+  not_missing (Compiles source updates) holds lacks = lacks holds
   not_missing (TakesStep of edge) holds lacks = inputs_not_missing of holds lacks
   not_missing (TellsPlan program mode delta) holds lacks = holds lacks
   not_missing (TellsCounts of) holds lacks = inputs_not_missing of holds lacks

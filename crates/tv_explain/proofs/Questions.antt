@@ -26,8 +26,8 @@ module _ (told : Option Held) (of : AnalyzedForm) where
       inputs_cause told (TellsMessage of edge number) of rose steady f (λ k r. r) (λ k r. r) (λ l. l) h
   unread (asked.Structure node index) rose steady f h =
       inputs_cause told (TellsStructure of node.now index) of rose steady f (λ k r. r) (λ k r. r) (λ l. l) h
-  unread asked.Losses rose steady f h =
-      inputs_cause told (TellsLosses of) of rose steady f (λ k r. r) (λ k r. r) (λ l. l) h
+  unread (asked.Losses how) rose steady f h =
+      inputs_cause told (TellsLosses of how) of rose steady f (λ k r. r) (λ k r. r) (λ l. l) h
   unread (asked.Step edge) rose steady f h =
       inputs_cause told (TakesStep of edge) of rose steady f (λ k r. r) (λ k r. r) (λ l. l) h
   unread asked.Counts rose steady f h =
@@ -43,8 +43,8 @@ module _ (told : Option Held) (of : AnalyzedForm) where
       stopped_cause told (TellsMessage of edge number) of inputs rose steady f (λ P is. (inputs, means, is)) h
   stopped (asked.Structure node index) inputs rose steady f means h =
       stopped_cause told (TellsStructure of node.now index) of inputs rose steady f (λ P is. (inputs, means, is)) h
-  stopped asked.Losses inputs rose steady f means h =
-      stopped_cause told (TellsLosses of) of inputs rose steady f (λ P is. (inputs, means, is)) h
+  stopped (asked.Losses how) inputs rose steady f means h =
+      stopped_cause told (TellsLosses of how) of inputs rose steady f (λ P is. (inputs, means, is)) h
   stopped (asked.Step edge) inputs rose steady f means h =
       stopped_cause told (TakesStep of edge) of inputs rose steady f (λ P is. (inputs, means, is)) h
   stopped asked.Counts inputs rose steady f means h =
@@ -57,7 +57,7 @@ module _ (told : Option Held) (of : AnalyzedForm) where
       → IsTold of inputs question answer → IsAnswer told (command_of of question) answer
   answered (asked.Message edge number) inputs answer means h = ((inputs, means, h.0), h.1)
   answered (asked.Structure node index) inputs answer means h = ((inputs, means, h.0), h.1)
-  answered asked.Losses inputs answer means h = (inputs, means, h)
+  answered (asked.Losses how) inputs answer means h = (inputs, means, h)
   answered (asked.Step edge) inputs answer means h = ((inputs, means, h.0), h.1)
   answered asked.Counts inputs answer means h = ((inputs, means, h.0), h.1)
   answered (asked.Witness search) inputs answer means h = (inputs, means, h)
@@ -69,7 +69,7 @@ module _ (told : Option Held) (of : AnalyzedForm) where
       → BeginsFor told old new (command_of of question)
   begun (asked.Message edge number) old new h = h
   begun (asked.Structure node index) old new h = h
-  begun asked.Losses old new h = h
+  begun (asked.Losses how) old new h = h
   begun (asked.Step edge) old new h = h
   begun asked.Counts old new h = h
   begun (asked.Witness search) old new h = h
@@ -79,7 +79,7 @@ module _ (told : Option Held) (of : AnalyzedForm) where
       → FewBegins told old new (command_of of question)
   few_begun (asked.Message edge number) old new h = h
   few_begun (asked.Structure node index) old new h = h
-  few_begun asked.Losses old new h = h
+  few_begun (asked.Losses how) old new h = h
   few_begun (asked.Step edge) old new h = h
   few_begun asked.Counts old new h = h
   few_begun (asked.Witness search) old new h = h

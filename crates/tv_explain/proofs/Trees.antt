@@ -13,18 +13,21 @@ use Rattle.tv_lex.specs.declared.gatherer.Gathered.{Gathered}
 use Rattle.tv_model.specs.Program.{ProgramForm, program_of}
 use Rattle.tv_model.specs.declared.program.Edge.{Edge}
 use Rattle.tv_outside.specs.Told.{Held}
+use Rattle.tv_rule_lines.specs.RuleLines.{AreRuleLines}
 use Rattle.tv_tree.specs.Copies.{program_of as tree_of}
 use Rattle.tv_explain.specs.Meaning.{IsDrawnFile, IsDrawnText}
 use Rattle.tv_explain.specs.Work.{IsDrawnWhereParted, IsTakenFrom}
 use Rattle.tv_explain.specs.declared.inputs.Drawn.{Drawn}
 
 -- the program that a text means, with its heads
-pub drawn : EdgesAreKept → (gathered : Gathered) (u : Understood) (heads : Vec (List ℕ) Global)
+pub drawn : EdgesAreKept → (gathered : Gathered) (u : Understood) (heads lines : Vec (List ℕ) Global)
     → IsUnderstood gathered.bytes.items u
     → ((traced : List Traced) → IsMadeOf traced gathered
     → AreHeads traced gathered.bytes.items (tree_of u.tree) heads.items)
-    → IsDrawnWhereParted gathered (record { program = u.program; heads = heads })
-drawn kept gathered u heads is stand = λ told name parted. record {
+    → ((traced : List Traced) → IsMadeOf traced gathered
+    → AreRuleLines traced gathered.bytes.items (tree_of u.tree) lines.items)
+    → IsDrawnWhereParted gathered (record { program = u.program; heads = heads; rule_lines = lines })
+drawn kept gathered u heads lines is stand written = λ told name parted. record {
   means = (is.flat, (tree_of u.tree, is.has, is.expands), is.resolves);
   tree = tree_of u.tree;
   has = is.has;
@@ -32,6 +35,7 @@ drawn kept gathered u heads is stand = λ told name parted. record {
   traced = parted.0;
   come = parted.1;
   heads = stand parted.0 parted.2;
+  rule_lines = written parted.0 parted.2;
 }
 
 -- ---- what differencing makes of a program
@@ -40,7 +44,7 @@ drawn kept gathered u heads is stand = λ told name parted. record {
 taken_text : (told : Option Held) (name : List ℕ) (delta : Bool) (text : List ℕ) (read drawn : Drawn)
     → IsTakenFrom delta read drawn → IsDrawnText told name false text read → IsDrawnText told name delta text drawn
 taken_text told name false text read drawn same is = subst (IsDrawnText told name false text) (sym same) is
-taken_text told name true text read drawn (differs, heads) is = record {
+taken_text told name true text read drawn (differs, heads, lines) is = record {
   means = (read.program, is.means, differs);
   tree = is.tree;
   has = is.has;
@@ -51,6 +55,8 @@ taken_text told name true text read drawn (differs, heads) is = record {
   traced = is.traced;
   come = is.come;
   heads = subst (λ (hs : Vec (List ℕ) Global). AreHeads is.traced text is.tree hs.items) (sym heads) is.heads;
+  rule_lines = subst (λ (ls : Vec (List ℕ) Global). AreRuleLines is.traced text is.tree ls.items)
+      (sym lines) is.rule_lines;
 }
 
 pub taken_file : (told : Option Held) (delta : Bool) (name : List ℕ) (read drawn : Drawn)

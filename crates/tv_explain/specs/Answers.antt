@@ -1,6 +1,6 @@
 -- What a command answers, and what it gives no answer for.
-use Rattle.std.specs.Prelude.{ℕ, ◌≡◌, ◌⊎◌, ◌<◌, ◌≤◌, false, List, ◌++◌, Option, Some, Ok, length, slice_get}
-use Rattle.std.specs.Prelude.{codes}
+use Rattle.std.specs.Prelude.{ℕ, ◌≡◌, ◌⊎◌, ◌<◌, ◌≤◌, Bool, true, false, List, ◌++◌, Option, Some, Ok, length}
+use Rattle.std.specs.Prelude.{codes, slice_get}
 use Rattle.std.specs.Prelude.{Any, Contains}
 use Rattle.std.specs.List.{AllZip}
 use Rattle.tv_compiled.specs.Compiled.{IsCause, written}
@@ -8,22 +8,25 @@ use Rattle.tv_compiled.specs.declared.error.CompiledError.TheVariants as compile
 use Rattle.tv_compiled_laws.specs.Laws.{MeansInFiles}
 use Rattle.tv_complete_text.specs.Text.{IsCauseOfNone, IsCompletedText, IsCompletion}
 use Rattle.tv_complete_text.specs.declared.error.CompletionError.TheVariants as completion
+use Rattle.tv_causes.specs.Legs.{IsCausedText}
 use Rattle.tv_counts.specs.Counts.{IsCountsText}
 use Rattle.tv_plan.specs.Texts.{IsPlanText}
 use Rattle.tv_stages_laws.specs.Stages.{IsSlowStep}
 use Rattle.tv_stages_laws.specs.declared.record.SlowStep.{SlowStep}
 use Rattle.tv_stages_text.specs.Texts.{stages_text}
-use Rattle.tv_texts.specs.Sources.{IsSourceText}
 use Rattle.tv_texts.specs.Structures.{IsStructuresText}
 use Rattle.tv_texts.specs.declared.source.SourceText.{SourceText}
 use Rattle.tv_texts.specs.declared.structures.StructuresText.{StructuresText}
 use Rattle.tv_kleene.specs.declared.K3.{K3}
 use Rattle.tv_lex.specs.Gather.{longest_gathered}
 use Rattle.tv_listing.specs.declared.analysis.Analysis.{Analysis}
+use Rattle.tv_losses.specs.Losses.{MeetsListed, PassesRounds}
 use Rattle.tv_losses_text.specs.Reports.{IsLossReport}
 use Rattle.tv_model.specs.Program.{MessageForm, ProgramForm, program_of}
+use Rattle.tv_model.specs.declared.program.Mode.{Mode}
 use Rattle.tv_model.specs.declared.program.Program.{Program}
 use Rattle.tv_outside.specs.Told.{Held}
+use Rattle.tv_rule_lines.specs.RuleTexts.{rules_text}
 use Rattle.tv_trail.specs.Reasons.{HasNone, IsLedToBy, IsNeverRaised, IsRaisedBy, StaysWithin}
 use Rattle.tv_step_laws.specs.Budgets.{MeetsIndividuals, MeetsSplits}
 use Rattle.tv_structure_form.specs.StructureForm.{StructureForm}
@@ -33,6 +36,7 @@ use Rattle.tv_trail_laws.specs.declared.trail.Trail.{Trail}
 use Rattle.tv_work.specs.Analyzed.{Meets}
 use Rattle.tv_work.specs.Reach.{AreMoreThan, IsReached, Point}
 use Rattle.tv_explain.specs.Meaning.{FilesMean, IsDrawnFile, drawn_form, heads_in}
+use Rattle.tv_explain.specs.Sources.{IsTakenText}
 use Rattle.tv_explain.specs.declared.fault.Answer.{Answer}
 use Rattle.tv_explain.specs.declared.fault.Fault.{Fault}
 use Rattle.tv_explain.specs.declared.fault.Fault.TheVariants.{Heaps, Memory, NotThere, Structures}
@@ -51,6 +55,7 @@ use Rattle.tv_explain_words.specs.Words.{AnalyzedForm, CommandForm, Shows, Lists
 use Rattle.tv_explain_words.specs.Words.{TellsStructure, TellsLosses, Compiles, TakesStep, TellsPlan}
 use Rattle.tv_explain_words.specs.Words.{BoundsForm, TellsCounts, Completes, TellsWitness}
 use Rattle.tv_explain_words.specs.declared.words.Aim.{Aim}
+use Rattle.tv_explain_words.specs.declared.words.LossOptions.{LossOptions}
 use Rattle.tv_heap_search.specs.declared.error.Unanswered.TheVariants.{TooMany}
 use Rattle.tv_heap_steps.specs.Settled.{AreAllSettled}
 use Rattle.tv_witness_text.specs.Cells.{cells_for}
@@ -62,14 +67,21 @@ use Rattle.tv_witness_text.specs.Reports.{IsCauseOfNoReport, IsWitnessReport, Ta
 abbrev pub trail_lines : Inputs → Trail → List ℕ
 trail_lines inputs trail = trail_text inputs.drawn.program.vocab (heads_in inputs) trail
 
+-- the text is the trail's, with what became unknown at each of its steps where that is asked for
+abbrev pub TellsTrail : (unknown : Bool) → Mode → Inputs → Trail → (text : List ℕ) → Type 0
+TellsTrail false mode inputs trail text = text ≡ trail_lines inputs trail
+TellsTrail true mode inputs trail text =
+    IsCausedText inputs.drawn.program mode (heads_in inputs) trail text
+
 -- The text is that of a shortest trail to the greatest value of the message, of the value, and of a structure
 -- at hand that raises it; or that there is none, where the analysis ends and no reached structure raises the
 -- message.
 abbrev pub TellsOfMessage : AnalyzedForm → Inputs → (edge number : ℕ) → MessageForm → (text : List ℕ) → Type 0
 TellsOfMessage of inputs edge number message text =
-    ((trail : Trail) × (value : K3) × (at_hand : StructureForm)
+    ((trail : Trail) × (value : K3) × (at_hand : StructureForm) × (lines : List ℕ)
     × IsRaisedBy (drawn_form inputs) of.mode inputs.initial edge number trail value at_hand
-    × (text ≡ trail_lines inputs trail ++ (raised_line (heads_in inputs) edge number value message.text
+    × TellsTrail of.style.unknown of.mode inputs trail lines
+    × (text ≡ lines ++ (raised_line (heads_in inputs) edge number value message.text
     ++ at_hand_line inputs.drawn.program.vocab at_hand)))
     ⊎ (IsNeverRaised (drawn_form inputs) of.mode inputs.initial edge number
     × StaysWithin (drawn_form inputs) of.mode inputs.initial of.max × (text ≡ codes "no message\n"))
@@ -85,14 +97,14 @@ abbrev pub IsStructureText : AnalyzedForm → Inputs → (node : List ℕ) → (
 IsStructureText of inputs node index text = (place : ℕ)
     × (slice_get (drawn_form inputs).nodes place ≡ Some node)
     × ((trail : Trail) × IsLedToBy (drawn_form inputs) of.mode inputs.initial of.max place index trail
-    × (text ≡ trail_lines inputs trail))
+    × TellsTrail of.style.unknown of.mode inputs trail text)
 
 -- ---- losses
 
--- the answer is the report on what the analysis loses, and says whether it loses anything
-abbrev pub TellsOfLosses : AnalyzedForm → Inputs → Answer → Type 0
-TellsOfLosses of inputs answer =
-    IsLossReport (drawn_form inputs) (heads_in inputs) of.mode inputs.initial of.max
+-- the answer is the report on what the analysis loses, or the joined one, and says whether it loses anything
+abbrev pub TellsOfLosses : AnalyzedForm → (how : LossOptions) → Inputs → Answer → Type 0
+TellsOfLosses of how inputs answer =
+    IsLossReport inputs.drawn.program (heads_in inputs) of.mode how.cases how.join inputs.initial of.max
     (record { text = answer.text; is_any = answer.is_lost })
 
 -- ---- witnesses
@@ -170,24 +182,32 @@ HasNoCompletion unwritten.OtherCompletion p read =
     IsCauseOfNone p read.bytes.items read.tokens.list.items read.structures completion.Differs
 HasNoCompletion other p read = ⊥
 
+-- ---- edges and rules
+
+-- the edges by number, with the messages of their actions, and behind them the rules by number
+abbrev pub listed_lines : Drawn → List ℕ
+listed_lines drawn = edges_text (program_of drawn.program) 0 drawn.heads.items
+    ++ rules_text (program_of drawn.program) drawn.rule_lines.items
+
 -- ---- answers
 
 -- The text is what the command gives, where that is a text alone: the structures of REPORT, a report on
--- PROGRAM; the control edges of PROGRAM as its text has them, with the messages of their actions; a
--- shortest trail; the program that SOURCE is compiled to; the steps of STRUCTURES; what the actions of
--- PROGRAM do to defined predicates; how many structures are listed; or STRUCTURES with what it doesn't name.
+-- PROGRAM; the control edges of PROGRAM as its text has them, with the messages of their actions, and the
+-- lines in which its rules are written; a shortest trail; the program that SOURCE is compiled to, with updates
+-- or without; the steps of STRUCTURES; what the actions of PROGRAM do to defined predicates; how many
+-- structures are listed; or STRUCTURES with what it doesn't name.
 abbrev pub IsText : Option Held → CommandForm → (text : List ℕ) → Type 0
 IsText told (Shows program report) text = (p : Program) × IsProgramFile told program (Ok p)
     × ((a : Analysis) × IsReportFile told report p (Ok a) × (text ≡ shown_text p a.listing))
 IsText told (ListsEdges program) text = (drawn : Drawn) × IsDrawnFile told false program drawn
-    × (text ≡ edges_text (program_of drawn.program) 0 drawn.heads.items)
+    × (text ≡ listed_lines drawn)
 IsText told (TellsMessage of edge number) text = (inputs : Inputs) × FilesMean told of inputs
     × IsMessageText of inputs edge number text
 IsText told (TellsStructure of node index) text = (inputs : Inputs) × FilesMean told of inputs
     × IsStructureText of inputs node index text
-IsText told (TellsLosses of) text = ⊥
-IsText told (Compiles source) text =
-    (read : SourceText) × IsSourceText told source read × IsCompiledText read text
+IsText told (TellsLosses of how) text = ⊥
+IsText told (Compiles source updates) text =
+    (read : SourceText) × IsTakenText told updates source read × IsCompiledText read text
 IsText told (TakesStep of edge) text = (inputs : Inputs) × FilesMean told of inputs
     × IsStepText of inputs edge text
 IsText told (TellsPlan program mode delta) text = (drawn : Drawn) × IsDrawnFile told delta program drawn
@@ -201,8 +221,8 @@ IsText told (TellsWitness of aim bounds) text = ⊥
 -- The answer is what the command gives: of `losses` what the analysis loses; of `witness` what is told of a
 -- message; of each other a text, and that nothing is lost.
 abbrev pub IsAnswer : Option Held → CommandForm → Answer → Type 0
-IsAnswer told (TellsLosses of) answer = (inputs : Inputs) × FilesMean told of inputs
-    × TellsOfLosses of inputs answer
+IsAnswer told (TellsLosses of how) answer = (inputs : Inputs) × FilesMean told of inputs
+    × TellsOfLosses of how inputs answer
 IsAnswer told (TellsWitness of aim bounds) answer = (inputs : Inputs) × FilesMean told of inputs
     × TellsOfWitness of inputs aim bounds answer
 IsAnswer told other answer = IsText told other answer.text.items × (answer.is_lost ≡ false)
@@ -241,18 +261,23 @@ NamesNothing (TellsWitness asked aim bounds) of inputs what =
     LacksSearch (drawn_form inputs) aim.edge aim.number what
 NamesNothing command of inputs other = ⊥
 
--- more structures are reached than may be listed; a step, counts and a search among heaps have no such limit
+-- more structures are reached than may be listed, or a round of the joined analysis lists more; a step, counts,
+-- other losses and a search among heaps have no such limit
 abbrev pub PassesMost : CommandForm → AnalyzedForm → Inputs → Type 0
 PassesMost (TakesStep asked edge) of inputs = ⊥
 PassesMost (TellsCounts asked) of inputs = ⊥
+PassesMost (TellsLosses asked how) of inputs =
+    PassesRounds (drawn_form inputs) of.mode inputs.initial of.max how.join
 PassesMost (TellsWitness asked aim bounds) of inputs = ⊥
 PassesMost command of inputs = AreMoreThan of.max (Reached of inputs)
 
 -- a step that the command takes meets the budget: that of a structure along the command's edge, of an
--- analysis that of a reached structure
+-- analysis that of a reached structure, or of one that a round of the joined analysis lists
 abbrev pub MeetsItsBudget : CommandForm → AnalyzedForm → Inputs
     → (Budget : ProgramForm → (edge : ℕ) → StructureForm → Type 0) → Type 0
 MeetsItsBudget (TakesStep asked edge) of inputs Budget = Any (Budget (drawn_form inputs) edge) inputs.initial
+MeetsItsBudget (TellsLosses asked how) of inputs Budget =
+    MeetsListed (drawn_form inputs) of.mode inputs.initial (Budget (drawn_form inputs)) how.join
 MeetsItsBudget (TellsWitness asked aim bounds) of inputs Budget = ⊥
 MeetsItsBudget command of inputs Budget =
     Meets (drawn_form inputs) (Budget (drawn_form inputs)) (Reached of inputs)
@@ -283,8 +308,9 @@ FilesMeanSuch told (TellsMessage of edge number) AreSuch =
     (inputs : Inputs) × FilesMean told of inputs × AreSuch of inputs
 FilesMeanSuch told (TellsStructure of node index) AreSuch =
     (inputs : Inputs) × FilesMean told of inputs × AreSuch of inputs
-FilesMeanSuch told (TellsLosses of) AreSuch = (inputs : Inputs) × FilesMean told of inputs × AreSuch of inputs
-FilesMeanSuch told (Compiles source) AreSuch = ⊥
+FilesMeanSuch told (TellsLosses of how) AreSuch =
+    (inputs : Inputs) × FilesMean told of inputs × AreSuch of inputs
+FilesMeanSuch told (Compiles source updates) AreSuch = ⊥
 FilesMeanSuch told (TakesStep of edge) AreSuch =
     (inputs : Inputs) × FilesMean told of inputs × AreSuch of inputs
 FilesMeanSuch told (TellsPlan program mode delta) AreSuch = ⊥
@@ -296,8 +322,8 @@ FilesMeanSuch told (TellsWitness of aim bounds) AreSuch =
 -- it is a command on a source program, which is compiled, or on structures that are completed, and what
 -- comes of it isn't written, for this reason
 abbrev pub IsUnwritten : Option Held → CommandForm → Unwritten → Type 0
-IsUnwritten told (Compiles source) why =
-    (read : SourceText) × IsSourceText told source read × HasNoText read why
+IsUnwritten told (Compiles source updates) why =
+    (read : SourceText) × IsTakenText told updates source read × HasNoText read why
 IsUnwritten told (Completes program structures) why =
     ReadsSuch told program structures (HasNoCompletion why)
 IsUnwritten told other why = ⊥

@@ -1,6 +1,7 @@
 -- Which ending the words of a call and what its files hold call for.
-use Rattle.std.specs.Prelude.{ℕ, ◌≡◌, ◌⊎◌, ◌<◌, ◌≤◌, List, Option, Some, IsSome, Ok, Contains, length}
-use Rattle.std.specs.Prelude.{All, slice_get}
+use Rattle.std.specs.Prelude.{ℕ, ◌≡◌, ◌⊎◌, ◌<◌, ◌≤◌, Bool, true, false, List, Option, Some, IsSome, Ok, Contains}
+use Rattle.std.specs.Prelude.{All, length, slice_get}
+use Rattle.tv_join.specs.Rounds.{IsInRound}
 use Rattle.tv_lex.specs.Gather.{longest_gathered}
 use Rattle.tv_listing.specs.declared.analysis.Analysis.{Analysis}
 use Rattle.tv_losses.specs.Losses.{AreLosses}
@@ -24,6 +25,7 @@ use Rattle.tv_work.specs.Reach.{AreMoreThan, IsReached}
 use Rattle.tv_explain.specs.Answers.{FilesMeanSuch, IsCompletionOf, IsUnwritten, LacksSearch, compiled_lines}
 use Rattle.tv_explain.specs.Call.{Commands}
 use Rattle.tv_explain.specs.Meaning.{FilesMean, IsRefused, drawn_form}
+use Rattle.tv_explain.specs.Sources.{IsTakenText}
 use Rattle.tv_explain.specs.declared.fault.Ending.{Ending}
 use Rattle.tv_explain.specs.declared.fault.Ending.TheVariants.{As, Lost, Absent, NotWritten as Unwritable}
 use Rattle.tv_explain.specs.declared.fault.Ending.TheVariants.{Unsearched}
@@ -33,13 +35,13 @@ use Rattle.tv_explain.specs.declared.fault.Unwritten.{Unwritten}
 use Rattle.tv_explain.specs.declared.fault.Unwritten.TheVariants as unwritten
 use Rattle.tv_explain.specs.declared.inputs.Inputs.{Inputs}
 use Rattle.tv_explain_text.specs.Texts.{messages_at}
-use Rattle.tv_texts.specs.Sources.{IsSourceText}
 use Rattle.tv_texts.specs.Structures.{IsStructuresText}
 use Rattle.tv_texts.specs.declared.source.SourceText.{SourceText}
 use Rattle.tv_texts.specs.declared.structures.StructuresText.{StructuresText}
 use Rattle.tv_explain_words.specs.Words.{AnalyzedForm, CommandForm, Shows, ListsEdges, TellsMessage}
 use Rattle.tv_explain_words.specs.Words.{TellsStructure, TellsLosses, Compiles, TakesStep, TellsPlan}
 use Rattle.tv_explain_words.specs.Words.{BoundsForm, TellsCounts, Completes, TellsWitness, SpellsNothing}
+use Rattle.tv_explain_words.specs.declared.words.LossOptions.{LossOptions}
 use Rattle.tv_heap_steps.specs.Settled.{AreAllSettled}
 use Rattle.tv_witness_laws.specs.Laws.{asks_message}
 use Rattle.tv_witness_laws.specs.Witness.{HasWitness, Question}
@@ -64,10 +66,22 @@ abbrev pub KeepsReached : AnalyzedForm → Inputs → Type 0
 KeepsReached of inputs =
     KeepAllBudgets (drawn_form inputs) (IsReached (drawn_form inputs) of.mode inputs.initial)
 
+-- the analysis whose losses are told keeps its limits: the step of each structure that is reached, or that a round
+-- of the joined one lists, keeps the budgets, and no round lists too many
+abbrev pub KeepsListed : (joined : Bool) → ProgramForm → Mode → (initial : List StructureForm) → (max : ℕ)
+    → Type 0
+KeepsListed false p mode initial max = KeepAllBudgets p (IsReached p mode initial)
+KeepsListed true p mode initial max = (round : ℕ) → (¬ AreMoreThan max (IsInRound p mode initial round))
+    × KeepAllBudgets p (IsInRound p mode initial round)
+
+abbrev pub KeepsLosses : AnalyzedForm → LossOptions → Inputs → Type 0
+KeepsLosses of how inputs = KeepsListed how.join (drawn_form inputs) of.mode inputs.initial of.max
+
 -- the command keeps its limits
 abbrev pub KeepsItsLimits : CommandForm → AnalyzedForm → Inputs → Type 0
 KeepsItsLimits (TakesStep asked edge) of inputs = KeepsEach edge inputs
 KeepsItsLimits (TellsCounts asked) of inputs = KeepsReached of inputs
+KeepsItsLimits (TellsLosses asked how) of inputs = KeepsLosses of how inputs
 KeepsItsLimits (TellsWitness asked aim bounds) of inputs = Unit {0}
 KeepsItsLimits command of inputs = IsWithinLimits of inputs
 
@@ -77,10 +91,10 @@ ListsSuch of inputs node AreSuch =
     (place : ℕ) (structures : List StructureForm) → slice_get (drawn_form inputs).nodes place ≡ Some node
     → ListsAt (drawn_form inputs) of.mode inputs.initial of.max place structures → AreSuch structures
 
--- what the analysis loses is such
-abbrev pub LosesSuch : AnalyzedForm → Inputs → (Losses → Type 0) → Type 0
-LosesSuch of inputs AreSuch = (losses : Losses)
-    → AreLosses (drawn_form inputs) of.mode inputs.initial of.max losses → AreSuch losses
+-- whatever is found that the analysis loses is such
+abbrev pub LosesSuch : AnalyzedForm → (how : LossOptions) → Inputs → (Losses → Type 0) → Type 0
+LosesSuch of how inputs AreSuch = (losses : Losses)
+    → AreLosses (drawn_form inputs) of.mode how.cases how.join inputs.initial of.max losses → AreSuch losses
 
 -- ---- answers and absences that are called for
 
@@ -126,9 +140,10 @@ CanAnswer told (TellsMessage of edge number) = (inputs : Inputs) × FilesMean to
 CanAnswer told (TellsStructure of node index) = (inputs : Inputs) × FilesMean told of inputs
     × IsWithinLimits of inputs × Contains (drawn_form inputs).nodes node
     × ListsSuch of inputs node (λ structures. index < length structures)
-CanAnswer told (TellsLosses of) = (inputs : Inputs) × FilesMean told of inputs
-    × IsWithinLimits of inputs × LosesSuch of inputs AreNone
-CanAnswer told (Compiles source) = (read : SourceText) × IsSourceText told source read × CanBeWritten read
+CanAnswer told (TellsLosses of how) = (inputs : Inputs) × FilesMean told of inputs
+    × KeepsLosses of how inputs × LosesSuch of how inputs AreNone
+CanAnswer told (Compiles source updates) =
+    (read : SourceText) × IsTakenText told updates source read × CanBeWritten read
 CanAnswer told (TakesStep of edge) = (inputs : Inputs) × FilesMean told of inputs × KeepsEach edge inputs
     × (edge < length (drawn_form inputs).edges)
 CanAnswer told (TellsPlan program mode delta) = (p : Program) × IsProgramFile told program (Ok p)
@@ -141,8 +156,8 @@ CanAnswer told (TellsWitness of aim bounds) = (inputs : Inputs) × FilesMean tol
 
 -- it is `losses`, of an analysis that loses something; or `witness`, of a message that has one
 abbrev pub LosesSome : Option Held → CommandForm → Type 0
-LosesSome told (TellsLosses of) = (inputs : Inputs) × FilesMean told of inputs
-    × IsWithinLimits of inputs × LosesSuch of inputs (λ losses. ¬ AreNone losses)
+LosesSome told (TellsLosses of how) = (inputs : Inputs) × FilesMean told of inputs
+    × KeepsLosses of how inputs × LosesSuch of how inputs (λ losses. ¬ AreNone losses)
 LosesSome told (TellsWitness of aim bounds) = (inputs : Inputs) × FilesMean told of inputs
     × SearchesSuch of inputs aim.edge aim.number bounds HasWitness
 LosesSome told other = ⊥

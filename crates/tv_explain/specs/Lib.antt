@@ -3,6 +3,8 @@ pub mod Edges
 pub mod Meaning
 pub mod Answers
 pub mod Questions
+pub mod Reports
+pub mod Sources
 pub mod Begins
 pub mod Call
 pub mod Delivery

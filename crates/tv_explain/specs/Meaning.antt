@@ -9,6 +9,7 @@ use Rattle.tv_lex.specs.Traced.{IsTraced, Traced}
 use Rattle.tv_model.specs.Program.{ProgramForm, program_of}
 use Rattle.tv_model.specs.declared.program.Program.{Program}
 use Rattle.tv_outside.specs.Told.{Held, HoldsName}
+use Rattle.tv_rule_lines.specs.RuleLines.{AreRuleLines}
 use Rattle.tv_status.specs.declared.status.FileKind.{FileKind}
 use Rattle.tv_status.specs.declared.status.Role.{Role}
 use Rattle.tv_status.specs.declared.status.Role.TheVariants as role
@@ -28,8 +29,8 @@ program_name (Shows program report) = program
 program_name (ListsEdges program) = program
 program_name (TellsMessage of edge number) = of.program
 program_name (TellsStructure of node index) = of.program
-program_name (TellsLosses of) = of.program
-program_name (Compiles source) = source
+program_name (TellsLosses of how) = of.program
+program_name (Compiles source updates) = source
 program_name (TakesStep of edge) = of.program
 program_name (TellsPlan program mode delta) = program
 program_name (TellsCounts of) = of.program
@@ -46,7 +47,8 @@ MeansTaken true text program = (read : Program) × MeansProgram text (Ok read)
 
 -- The text means the program. The program's edges are those of the text's tree, in their order: each leaves
 -- and enters the nodes of the names that stand there. So are the heads: each is the edge as it is printed,
--- behind the file and line of which its first byte is, where the text is gathered from the named file.
+-- behind the file and line of which its first byte is, where the text is gathered from the named file; and
+-- the lines of the rules are those in which their declarations begin.
 pub record IsDrawnText (told : Option Held) (name : List ℕ) (delta : Bool) (text : List ℕ) (drawn : Drawn)
     : Type 0 where
   pub means : MeansTaken delta text drawn.program
@@ -56,6 +58,7 @@ pub record IsDrawnText (told : Option Held) (name : List ℕ) (delta : Bool) (te
   pub traced : List Traced
   pub come : IsTraced told name traced
   pub heads : AreHeads traced text tree drawn.heads.items
+  pub rule_lines : AreRuleLines traced text tree drawn.rule_lines.items
 
 -- so does the text of the named file, with its includes put in
 abbrev pub IsDrawnFile : Option Held → (delta : Bool) → (name : List ℕ) → Drawn → Type 0
@@ -96,8 +99,8 @@ IsRefused told (Shows program report) role.Report kind = (p : Program) × IsProg
 IsRefused told (ListsEdges program) role.Program kind = IsProgramFile told program (Err kind)
 IsRefused told (TellsMessage of edge number) role kind = IsNoAnalysis told of role kind
 IsRefused told (TellsStructure of node index) role kind = IsNoAnalysis told of role kind
-IsRefused told (TellsLosses of) role kind = IsNoAnalysis told of role kind
-IsRefused told (Compiles source) role.Source kind = IsSourceFile told source (Err kind)
+IsRefused told (TellsLosses of how) role kind = IsNoAnalysis told of role kind
+IsRefused told (Compiles source updates) role.Source kind = IsSourceFile told source (Err kind)
 IsRefused told (TakesStep of edge) role kind = IsNoAnalysis told of role kind
 IsRefused told (TellsPlan program mode delta) role.Program kind = IsProgramFile told program (Err kind)
 IsRefused told (TellsCounts of) role kind = IsNoAnalysis told of role kind
@@ -121,8 +124,8 @@ IsMissing told (Shows program report) = LacksFile told program
 IsMissing told (ListsEdges program) = LacksFile told program
 IsMissing told (TellsMessage of edge number) = LacksInputs told of
 IsMissing told (TellsStructure of node index) = LacksInputs told of
-IsMissing told (TellsLosses of) = LacksInputs told of
-IsMissing told (Compiles source) = ¬ HoldsName told source
+IsMissing told (TellsLosses of how) = LacksInputs told of
+IsMissing told (Compiles source updates) = ¬ HoldsName told source
 IsMissing told (TakesStep of edge) = LacksInputs told of
 IsMissing told (TellsPlan program mode delta) = LacksFile told program
 IsMissing told (TellsCounts of) = LacksInputs told of
@@ -139,8 +142,8 @@ HoldsFiles told (Shows program report) = (¬ LacksFile told program) × HoldsNam
 HoldsFiles told (ListsEdges program) = ¬ LacksFile told program
 HoldsFiles told (TellsMessage of edge number) = HoldsInputs told of
 HoldsFiles told (TellsStructure of node index) = HoldsInputs told of
-HoldsFiles told (TellsLosses of) = HoldsInputs told of
-HoldsFiles told (Compiles source) = HoldsName told source
+HoldsFiles told (TellsLosses of how) = HoldsInputs told of
+HoldsFiles told (Compiles source updates) = HoldsName told source
 HoldsFiles told (TakesStep of edge) = HoldsInputs told of
 HoldsFiles told (TellsPlan program mode delta) = ¬ LacksFile told program
 HoldsFiles told (TellsCounts of) = HoldsInputs told of

@@ -19,7 +19,7 @@ witness_command of search = TellsWitness of search.aim (bounds_of search.bounds)
 abbrev pub command_of : AnalyzedForm → Question → CommandForm
 command_of of (asked.Message edge number) = TellsMessage of edge number
 command_of of (asked.Structure node index) = TellsStructure of node.now index
-command_of of asked.Losses = TellsLosses of
+command_of of (asked.Losses how) = TellsLosses of how
 command_of of (asked.Step edge) = TakesStep of edge
 command_of of asked.Counts = TellsCounts of
 command_of of (asked.Witness search) = witness_command of search
@@ -33,7 +33,7 @@ abbrev pub IsTold : AnalyzedForm → Inputs → Question → Answer → Type 0
 IsTold of inputs (asked.Message edge number) answer = IsPlain (IsMessageText of inputs edge number) answer
 IsTold of inputs (asked.Structure node index) answer =
     IsPlain (IsStructureText of inputs node.now index) answer
-IsTold of inputs asked.Losses answer = TellsOfLosses of inputs answer
+IsTold of inputs (asked.Losses how) answer = TellsOfLosses of how inputs answer
 IsTold of inputs (asked.Step edge) answer = IsPlain (IsStepText of inputs edge) answer
 IsTold of inputs asked.Counts answer =
     IsPlain (IsCountsText (drawn_form inputs) of.mode inputs.initial of.max) answer

@@ -37,7 +37,7 @@ IsDrawnWhereParted gathered drawn = (told : Option Held) (name : List ℕ) → H
 abbrev pub IsTakenFrom : (delta : Bool) → (read taken : Drawn) → Type 0
 IsTakenFrom false read taken = taken ≡ read
 IsTakenFrom true read taken = IsDifferenced (program_of read.program) (program_of taken.program)
-    × (taken.heads ≡ read.heads)
+    × (taken.heads ≡ read.heads) × (taken.rule_lines ≡ read.rule_lines)
 
 -- the text goes on with the steps of these structures along the edge
 abbrev pub GoesOnWithSteps : EngineForm → (edge : ℕ) → List StructureForm → (old new : List ℕ) → Type 0

@@ -2,13 +2,13 @@
 
 ghost use Rattle.std.specs.Prelude.{◌≡◌, ◌<◌, ◌^◌, ℕ, Contains, IfErr, IfNone, IfOk, IfSome, Some, codes};
 ghost use Rattle.std.specs.Prelude.{◌++◌, ◌↔◌, IsTrue, length, slice_get};
-ghost use Rattle.std.specs.Prelude.{All, OnOk};
+ghost use Rattle.std.specs.Prelude.{All, List, OnOk};
 ghost use Rattle.tv_counts.specs.Counts.{IsCountsText};
 ghost use Rattle.tv_model.specs.Program.{message_of, program_of};
 ghost use Rattle.tv_trail.specs.Over.{IsTrailOver};
 ghost use Rattle.tv_explain.specs.Answers.{IsMessageText, IsStepText, IsStopped, IsStructureText};
 ghost use Rattle.tv_explain.specs.Answers.{NamesNothing};
-ghost use Rattle.tv_explain.specs.Answers.{TellsOfLosses, TellsOfWitness, trail_lines};
+ghost use Rattle.tv_explain.specs.Answers.{Reached, TellsOfLosses, TellsOfWitness, TellsTrail};
 ghost use Rattle.tv_explain.specs.Meaning.{drawn_form, heads_in};
 ghost use Rattle.tv_explain.specs.Questions.{IsTold, command_of, witness_command};
 ghost use Rattle.tv_explain.specs.Work.{AreReady, GoesOnWithSteps, IsStepsStop};
@@ -17,21 +17,28 @@ ghost use Rattle.tv_explain_text.specs.Trails.{at_hand_line, raised_line};
 ghost use Rattle.tv_explain_words.specs.Words.{AnalyzedForm, TellsLosses, TellsMessage, TellsStructure};
 ghost use Rattle.tv_explain_words.specs.Words.{TakesStep, TellsCounts, analyzed_of, bounds_of};
 ghost use Rattle.tv_structure_form.specs.StructureForm.{IsOver};
+ghost use Rattle.tv_trail_laws.specs.Trails.{IsTrailTo};
+ghost use Rattle.tv_work.specs.Analyzed.{IsWorkCause};
+ghost use Rattle.tv_work.specs.Reach.{Point};
 
 use crate::fault::{Answer, Fault, Sought, fault_of_search, fault_of_work, plain};
 use crate::inputs::Inputs;
 use crate::question::{Question, Search};
 use std::alloc::{AllocError, Global};
+use tv_causes::caused_text;
 use tv_counts::counts_text;
 use tv_explain_text::{Told, append_alarm, messages_at, trail_text};
-use tv_explain_words::Analyzed;
+use tv_explain_words::{Analyzed, LossOptions};
+use tv_losses::Asked;
 use tv_losses_text::explain_losses;
 use tv_model::{Bytes, Message};
 use tv_stages::Stager;
 use tv_stages_text::{StageWriter, slow_steps_are_over};
 use tv_struct::Structure;
-use tv_trail::{Raised, trail_to_listed, trail_to_message};
+use tv_trail::{trail_to_listed, trail_to_message};
+use tv_trail_laws::Trail;
 use tv_witness_text::{Searched, Wanted, cells_for, explain_witness};
+use tv_work::WorkError;
 
 /// The text that no reached structure raises a message.
 fn no_message(alloc: Global) -> Result<Vec<u8>, AllocError>
@@ -58,33 +65,53 @@ fn message_at(inputs: &Inputs, edge: u32, number: u32) -> Result<&Message, Sough
     }
 }
 
+/// A trail as text, with what became unknown at each of its steps where that is asked for.
+fn trail_answer(
+    alloc: Global,
+    inputs: &Inputs,
+    of: &Analyzed,
+    trail: &Trail,
+) -> Result<Vec<u8>, WorkError>
+    requires ready { AreReady inputs.now }
+    requires over { IsTrailOver inputs.now.drawn.program.vocab trail.now }
+    requires trail { (last : Point)
+        × IsTrailTo (drawn_form inputs.now) of.now.mode inputs.now.initial trail.now last }
+    ensures found { IfOk result
+        (λ text. TellsTrail of.now.style.unknown of.now.mode inputs.now trail.now text.items) }
+    ensures cause { IfErr result (IsWorkCause (drawn_form inputs.now) of.now.max
+        (Reached (analyzed_of of.now) inputs.now)) }
+{
+    let program = &inputs.drawn.program;
+    let heads = &inputs.drawn.heads;
+    match of.style.unknown {
+        true => caused_text(alloc, program, of.mode, heads, trail),
+        false => Ok(trail_text(alloc, program, heads, trail)?),
+    }
+}
+
 /// The text of a message that may be true at the end of a trail.
 fn raised_answer(
     alloc: Global,
     inputs: &Inputs,
-    edge: u32,
-    number: u32,
-    message: &Message,
-    raised: &Raised,
-) -> Result<Vec<u8>, AllocError>
+    of: &Analyzed,
+    told: &Told<'_>,
+    trail: &Trail,
+) -> Result<Vec<u8>, WorkError>
     requires ready { AreReady inputs.now }
-    requires over { IsTrailOver inputs.now.drawn.program.vocab raised.now.trail }
-    requires at_hand { IsOver inputs.now.drawn.program.vocab raised.now.at_hand }
-    ensures { IfOk result (λ text. text.items ≡ trail_lines inputs.now raised.now.trail
-        ++ (raised_line (heads_in inputs.now) edge number raised.now.value message.now.text
-        ++ at_hand_line inputs.now.drawn.program.vocab raised.now.at_hand)) }
+    requires over { IsTrailOver inputs.now.drawn.program.vocab trail.now }
+    requires at_hand { IsOver inputs.now.drawn.program.vocab told.now.at_hand.now }
+    requires trail { (last : Point)
+        × IsTrailTo (drawn_form inputs.now) of.now.mode inputs.now.initial trail.now last }
+    ensures found { IfOk result (λ text. (lines : List ℕ)
+        × TellsTrail of.now.style.unknown of.now.mode inputs.now trail.now lines
+        × (text.items ≡ lines ++ (raised_line (heads_in inputs.now) told.now.edge told.now.number
+        told.now.value told.now.text.now
+        ++ at_hand_line inputs.now.drawn.program.vocab told.now.at_hand.now))) }
+    ensures cause { IfErr result (IsWorkCause (drawn_form inputs.now) of.now.max
+        (Reached (analyzed_of of.now) inputs.now)) }
 {
-    let told = Told {
-        edge,
-        number,
-        value: raised.value,
-        text: message.text.as_slice(),
-        at_hand: &raised.at_hand,
-    };
-    let program = &inputs.drawn.program;
-    let heads = &inputs.drawn.heads;
-    let mut out = trail_text(alloc, program, heads, &raised.trail)?;
-    append_alarm(alloc, &mut out, program, heads, &told)?;
+    let mut out = trail_answer(alloc, inputs, of, trail)?;
+    append_alarm(alloc, &mut out, &inputs.drawn.program, &inputs.drawn.heads, told)?;
     Ok(out)
 }
 
@@ -118,7 +145,19 @@ fn message_text(
     ) {
         Err(error) => Err(fault_of_work(error, of.max)),
         Ok(None) => Ok(no_message(alloc)?),
-        Ok(Some(raised)) => Ok(raised_answer(alloc, inputs, edge, number, message, &raised)?),
+        Ok(Some(raised)) => {
+            let told = Told {
+                edge,
+                number,
+                value: raised.value,
+                text: message.text.as_slice(),
+                at_hand: &raised.at_hand,
+            };
+            match raised_answer(alloc, inputs, of, &told, &raised.trail) {
+                Err(error) => Err(fault_of_work(error, of.max)),
+                Ok(text) => Ok(text),
+            }
+        }
     }
 }
 
@@ -172,7 +211,10 @@ fn structure_text(
     ) {
         Err(error) => Err(fault_of_work(error, of.max)),
         Ok(None) => Err(Fault::NotThere(Sought::Structure)),
-        Ok(Some(trail)) => Ok(trail_text(alloc, program, &inputs.drawn.heads, &trail)?),
+        Ok(Some(trail)) => match trail_answer(alloc, inputs, of, &trail) {
+            Err(error) => Err(fault_of_work(error, of.max)),
+            Ok(text) => Ok(text),
+        },
     }
 }
 
@@ -240,16 +282,27 @@ fn counts_answer(alloc: Global, inputs: &Inputs, of: &Analyzed) -> Result<Vec<u8
     }
 }
 
-/// What the analysis loses.
-fn losses_answer(alloc: Global, inputs: &Inputs, of: &Analyzed) -> Result<Answer, Fault>
+/// What the analysis loses, or the joined one: all lost cases, or the first of each edge alone.
+fn losses_answer(
+    alloc: Global,
+    inputs: &Inputs,
+    of: &Analyzed,
+    how: LossOptions,
+) -> Result<Answer, Fault>
     requires { AreReady inputs.now }
-    ensures found { IfOk result (TellsOfLosses (analyzed_of of.now) inputs.now) }
+    ensures found { IfOk result (TellsOfLosses (analyzed_of of.now) how inputs.now) }
     ensures cause { IfErr result
-        (IsStopped (TellsLosses (analyzed_of of.now)) (analyzed_of of.now) inputs.now) }
+        (IsStopped (TellsLosses (analyzed_of of.now) how) (analyzed_of of.now) inputs.now) }
 {
-    let program = &inputs.drawn.program;
-    let heads = &inputs.drawn.heads;
-    match explain_losses(alloc, program, heads, &inputs.initial, of.mode, of.max) {
+    let asked = Asked {
+        program: &inputs.drawn.program,
+        initial: &inputs.initial,
+        mode: of.mode,
+        max: of.max,
+        all: how.cases,
+        joined: how.join,
+    };
+    match explain_losses(alloc, &asked, &inputs.drawn.heads) {
         Err(error) => Err(fault_of_work(error, of.max)),
         Ok(report) => Ok(Answer {
             text: report.text,
@@ -317,7 +370,7 @@ pub fn answer(
         Question::Structure { node, index } => plain(structure_text(
             alloc, inputs, of, node, index,
         )),
-        Question::Losses => losses_answer(alloc, inputs, of),
+        Question::Losses { how } => losses_answer(alloc, inputs, of, how),
         Question::Step { edge } => plain(step_answer(alloc, inputs, of, edge)),
         Question::Counts => plain(counts_answer(alloc, inputs, of)),
         Question::Witness(search) => witness_answer(alloc, inputs, of, &search),

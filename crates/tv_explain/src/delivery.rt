@@ -14,12 +14,12 @@ use tv_outside::{Failed, Sink, write_all, write_parts};
 use tv_status::{Status, Teller, write_line, write_told};
 
 const USAGE: &[u8] =
-    b"usage: tvla-explain message PROGRAM INITIAL EDGE NUMBER [--max-structures N] [--recompute | --delta]
-       tvla-explain structure PROGRAM INITIAL NODE INDEX [--max-structures N] [--recompute | --delta]
-       tvla-explain losses PROGRAM INITIAL [--max-structures N] [--recompute | --delta]
+    b"usage: tvla-explain message PROGRAM INITIAL EDGE NUMBER [--unknown] [--max-structures N] [--recompute | --delta]
+       tvla-explain structure PROGRAM INITIAL NODE INDEX [--unknown] [--max-structures N] [--recompute | --delta]
+       tvla-explain losses PROGRAM INITIAL [--cases] [--join] [--max-structures N] [--recompute | --delta]
        tvla-explain show PROGRAM REPORT
        tvla-explain edges PROGRAM
-       tvla-explain compiled SOURCE
+       tvla-explain compiled SOURCE [--updates]
        tvla-explain step PROGRAM STRUCTURES EDGE [--recompute | --delta]
        tvla-explain plan PROGRAM [--recompute | --delta]
        tvla-explain counts PROGRAM INITIAL [--max-structures N] [--recompute | --delta]

@@ -1,4 +1,4 @@
-//! A program, with its edges as they are written, and the initial structures of an analysis.
+//! A program, with its edges and rules as they are written, and the initial structures of an analysis.
 
 ghost use Rattle.std.specs.Prelude.{◌≡◌, ◌≤◌, ◌+◌, false, IfOk, IfErr, OnOk, Err, length};
 ghost use Rattle.tv_lex.specs.Bytes.{longest_text};
@@ -26,15 +26,17 @@ use tv_front::{Understood, understand};
 use tv_lex::{Gathered, gather};
 use tv_model::{Bytes, Program};
 use tv_outside::Files;
+use tv_rule_lines::rule_lines;
 use tv_struct::Structures;
 use tv_texts::{TextFault, load_initial};
 
-/// A program, and its edges in their order: each as it is printed, behind the file and line in which it
-/// stands.
+/// A program, its edges in their order, each as it is printed, behind the file and line in which it stands,
+/// and the files and lines in which its rules are written.
 #[derive(Drop)]
 pub struct Drawn {
     pub program: Program,
     pub heads: Vec<Bytes>,
+    pub rule_lines: Vec<Bytes>,
 }
 
 /// What is analyzed.
@@ -59,10 +61,17 @@ fn drawn_in(alloc: Global, gathered: &Gathered) -> Result<Drawn, TextFault>
         tree,
         program,
     } = understand(alloc, &gathered.bytes)?;
-    match edge_heads(alloc, gathered, &tokens, &tree) {
-        Ok(heads) => Ok(Drawn { program, heads }),
-        Err(_) => Err(TextFault::Memory),
-    }
+    let Ok(heads) = edge_heads(alloc, gathered, &tokens, &tree) else {
+        return Err(TextFault::Memory);
+    };
+    let Ok(rule_lines) = rule_lines(alloc, gathered, &tokens, &tree) else {
+        return Err(TextFault::Memory);
+    };
+    Ok(Drawn {
+        program,
+        heads,
+        rule_lines,
+    })
 }
 
 /// The program that the named file means, with its includes put in, and its heads.
@@ -95,9 +104,17 @@ fn taken(alloc: Global, read: Drawn, delta: bool) -> Result<Drawn, TextFault>
     if !delta {
         return Ok(read);
     }
-    let Drawn { program, heads } = read;
+    let Drawn {
+        program,
+        heads,
+        rule_lines,
+    } = read;
     match differenced(alloc, &program) {
-        Ok(program) => Ok(Drawn { program, heads }),
+        Ok(program) => Ok(Drawn {
+            program,
+            heads,
+            rule_lines,
+        }),
         Err(_) => Err(TextFault::Memory),
     }
 }

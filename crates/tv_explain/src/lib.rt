@@ -16,26 +16,31 @@ mod fault;
 mod inputs;
 mod laws;
 mod question;
+mod sources;
 mod views;
 mod work;
 
 pub use fault::{Ending, Passed, Sought, Unwritten};
-pub use laws::{edges_are_kept, silence_is_no_line};
+pub use laws::{
+    chains_are_as_long, edges_are_kept, no_message_is_no_line, reports_cover_sources,
+    silence_is_no_line, texts_are_one,
+};
 use std::alloc::Global;
 use tv_explain_words::one_command;
 use tv_lex::one_reading;
 use tv_outside::{Files, Sink};
 pub use tv_status::{FileKind, Role, Status};
 use tv_texts::one_meaning_each;
+use tv_updates::one_meaning;
 
 /// Does all that the program does: `words` are the words after its name.
 ///
 /// The work is done in this order: the words are read; PROGRAM is gathered and understood, or for `compiled`
-/// SOURCE is read and compiled; for `show` REPORT is read and understood, for `message`, `structure`,
-/// `losses`, `counts` and `witness` INITIAL, for `step` and `complete` STRUCTURES; what the words name is
-/// looked for, and the analysis or the steps run; the text is put together and given to `out` whole. The
-/// first fault ends the call, and its text is given to `err`. Where the text tells of a loss or a witness the
-/// call ends as `Lost`.
+/// SOURCE is read and compiled, with updates or without; for `show` REPORT is read and understood, for
+/// `message`, `structure`, `losses`, `counts` and `witness` INITIAL, for `step` and `complete` STRUCTURES; what
+/// the words name is looked for, and the analysis or the steps run; the text is put together and given to `out`
+/// whole. The first fault ends the call, and its text is given to `err`. Where the text tells of a loss or a
+/// witness the call ends as `Lost`.
 pub fn explain<F: Files, O: Sink, E: Sink>(
     alloc: Global,
     words: &[String],
@@ -82,6 +87,7 @@ pub fn explain<F: Files, O: Sink, E: Sink>(
 {
     one_command();
     one_meaning_each();
+    one_meaning();
     one_reading();
     let found = work::perform(alloc, words, files);
     delivery::deliver(found, out, err)

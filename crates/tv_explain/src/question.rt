@@ -1,6 +1,6 @@
 //! What is asked of an analysis, or of its initial structures.
 
-use tv_explain_words::{Aim, Bounds};
+use tv_explain_words::{Aim, Bounds, LossOptions};
 
 /// A message of an edge, and how far heaps are searched for it.
 #[derive(Clone, Copy)]
@@ -17,7 +17,7 @@ pub enum Question<'a> {
     /// How the structure at this place of the node of this name comes about.
     Structure { node: &'a str, index: u32 },
     /// What the analysis loses.
-    Losses,
+    Losses { how: LossOptions },
     /// What the step of each initial structure along the edge makes of it, stage by stage.
     Step { edge: u32 },
     /// How many structures are listed at each node.

@@ -4,23 +4,27 @@ ghost use Rattle.std.specs.Prelude.{◌≡◌, ◌≤◌, IfOk, IfErr, OnOk};
 ghost use Rattle.tv_outside.specs.Count.{Rose};
 ghost use Rattle.tv_explain.specs.Call.{Commands, IsAnswerTo, IsCause, IsCommandCause, UnlessReadFault};
 ghost use Rattle.tv_explain.specs.Begins.{FewBegins, BeginsFor, BeginsNoMore};
-ghost use Rattle.tv_explain.specs.Answers.{IsAnswer, IsText};
+ghost use Rattle.tv_explain.specs.Answers.{IsAnswer, IsText, listed_lines};
 ghost use Rattle.tv_explain.specs.Questions.{command_of};
 ghost use Rattle.tv_explain_words.specs.Words.{Shows, ListsEdges, Compiles, SpellsNothing};
 ghost use Rattle.tv_explain_words.specs.Words.{analyzed_of, form_of};
+ghost use Rattle.tv_model.specs.Program.{program_of};
+ghost use Rattle.tv_model.specs.Valid.{IsValid};
 ghost use Rattle.tv_words.specs.Words.{words_of};
 
 use crate::answers::answer;
 use crate::fault::{Answer, Fault, plain};
-use crate::inputs::{load_drawn, load_inputs};
+use crate::inputs::{Drawn, load_drawn, load_inputs};
 use crate::question::{Question, Search};
+use crate::sources::taken;
 use crate::views::{complete, plan};
-use std::alloc::Global;
+use std::alloc::{AllocError, Global};
 use tv_compiled::compiled_text;
 use tv_compiled_laws::compiled_texts_are_programs;
 use tv_explain_text::{edges_text, shown_text};
 use tv_explain_words::{Analyzed, Command, one_command, read_words};
 use tv_outside::Files;
+use tv_rule_lines::rules_text;
 use tv_texts::{load_program, load_report, load_source_text};
 
 /// The structures of the second of the named files, as a report on the program that the first means.
@@ -49,7 +53,18 @@ fn show<F: Files>(
     Ok(shown_text(alloc, &program, &report.listing)?)
 }
 
-/// The control edges of the program that the named file means.
+/// The control edges of a program, and behind them its rules.
+fn listed_lines(alloc: Global, drawn: &Drawn) -> Result<Vec<u8>, AllocError>
+    requires { IsValid (program_of drawn.now.program) }
+    ensures { IfOk result (λ text. text.items ≡ listed_lines drawn.now) }
+{
+    let mut text = edges_text(alloc, &drawn.program, &drawn.heads)?;
+    let rules = rules_text(alloc, &drawn.program, &drawn.rule_lines)?;
+    text.extend_from_slice(&rules)?;
+    Ok(text)
+}
+
+/// The control edges and the rules of the program that the named file means.
 #[tactic(auto, using(crate::proofs::Causes::holds_unless))]
 fn edges<F: Files>(alloc: Global, files: &mut F, program: &str) -> Result<Vec<u8>, Fault>
     ensures found { IfOk result
@@ -66,7 +81,7 @@ fn edges<F: Files>(alloc: Global, files: &mut F, program: &str) -> Result<Vec<u8
         × (F.faults files.new ≡ F.faults files.old)) }
 {
     let drawn = load_drawn(alloc, files, program)?;
-    Ok(edges_text(alloc, &drawn.program, &drawn.heads)?)
+    Ok(listed_lines(alloc, &drawn)?)
 }
 
 /// The answer to a question on an analysis, whose files are read.
@@ -95,25 +110,31 @@ fn ask<F: Files>(
     answer(alloc, &inputs, of, question)
 }
 
-/// The program that the source program of the named file is compiled to.
+/// The program that the source program of the named file is compiled to, with updates or without.
 #[tactic(auto, using(crate::proofs::Causes::holds_unless))]
-fn compiled<F: Files>(alloc: Global, files: &mut F, source: &str) -> Result<Vec<u8>, Fault>
+fn compiled<F: Files>(
+    alloc: Global,
+    files: &mut F,
+    source: &str,
+    updates: bool,
+) -> Result<Vec<u8>, Fault>
     ensures found { IfOk result
-        (λ text. IsText (F.holds files.old) (Compiles source.now) text.items) }
-    ensures cause { IfErr result (IsCommandCause (F.holds files.old) (Compiles source.now)
+        (λ text. IsText (F.holds files.old) (Compiles source.now updates) text.items) }
+    ensures cause { IfErr result (IsCommandCause (F.holds files.old) (Compiles source.now updates)
         (Rose (F.faults files.old) (F.faults files.new)) (F.steady files.old)) }
     ensures holds { F.holds files.new ≡ F.holds files.old }
     ensures begins { OnOk result (BeginsFor (F.holds files.old) (F.begins files.old) (F.begins files.new)
-        (Compiles source.now)) }
+        (Compiles source.now updates)) }
     ensures most { FewBegins (F.holds files.old) (F.begins files.old) (F.begins files.new)
-        (Compiles source.now) }
+        (Compiles source.now updates) }
     ensures count { F.faults files.old ≤ F.faults files.new }
     ensures steady { F.steady files.old → UnlessReadFault result (F.steady files.new
         × (F.faults files.new ≡ F.faults files.old)) }
 {
     compiled_texts_are_programs();
     let read = load_source_text(alloc, files, source)?;
-    Ok(compiled_text(alloc, &read.bytes, &read.tokens, &read.program)?)
+    let taken = taken(alloc, read, updates)?;
+    Ok(compiled_text(alloc, &taken.bytes, &taken.tokens, &taken.program)?)
 }
 
 /// What the command gives.
@@ -141,8 +162,8 @@ fn execute<F: Files>(alloc: Global, files: &mut F, command: &Command) -> Result<
             let index = *index;
             ask(alloc, files, of, &Question::Structure { node, index })
         }
-        Command::Losses { of } => ask(alloc, files, of, &Question::Losses),
-        Command::Compiled { source } => plain(compiled(alloc, files, source)),
+        Command::Losses { of, how } => ask(alloc, files, of, &Question::Losses { how: *how }),
+        Command::Compiled { source, updates } => plain(compiled(alloc, files, source, *updates)),
         Command::Step { of, edge } => ask(alloc, files, of, &Question::Step { edge: *edge }),
         Command::Plan {
             program,

@@ -6,4 +6,4 @@ mod laws;
 mod words;
 
 pub use laws::one_command;
-pub use words::{Aim, Analyzed, Bounds, Command, Piece, read_words};
+pub use words::{Aim, Analyzed, Bounds, Command, LossOptions, Piece, Style, read_words};

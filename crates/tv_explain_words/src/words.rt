@@ -1,22 +1,38 @@
 //! The words after the program's name.
 
-ghost use Rattle.std.specs.Prelude.{◌≡◌, ◌↔◌, ℕ, List, [], ◌∷◌, IfOk, IfSome, IfNone, IsTrue, Option, codes};
-ghost use Rattle.tv_explain_words.specs.Words.{ArePieces, BoundsForm, HasBounds, HasNoSearch, IsAskedBy};
-ghost use Rattle.tv_explain_words.specs.Words.{IsCells, IsStates, NoneAskedBy, asked_in, bounds_of};
-ghost use Rattle.tv_explain_words.specs.declared.words.Piece.{Piece};
-ghost use Rattle.tv_words.specs.Setup.{line_in, told_texts};
+ghost use Rattle.std.specs.Prelude.{◌≡◌, ℕ, List, [], ◌∷◌, IfOk, IfSome, IfNone, Option, codes};
+ghost use Rattle.tv_explain_words.specs.Words.{BoundsForm, HasBounds, IsCells, IsStates, bounds_of};
+ghost use Rattle.tv_words.specs.Setup.{told_texts};
 ghost use Rattle.tv_words.specs.Words.{words_of};
 ghost use Rattle.tv_explain_words.specs.Words.{IsNumber, IsSaid, NoneSaid, Spells, SpellsNothing, SaidOf};
-ghost use Rattle.tv_explain_words.specs.Words.{AsksNothing, IsAsked, analyzed_of};
+ghost use Rattle.tv_explain_words.specs.Words.{AsksNothing, IsAsked, analyzed_of, asked_in};
 
-use crate::asked::{AskedLine, asked_command, told_asked};
+use crate::asked::{
+    AskedLine, asked_command, has_no_form, has_no_other, has_no_search, has_no_style, is_bare,
+    is_plain, loss_options, piece_of, style_of, told_asked, updates_of,
+};
 use itoa::Buffer;
 use std::alloc::{AllocError, Global};
 use tv_model::Mode;
-use tv_words::{Line, four, has_no_flags, has_values, max_of, one, read_line, two, updating};
+use tv_words::{four, has_values, max_of, one, read_line, two, updating};
+
+/// How chains are told: with `unknown`, behind each step what became unknown.
+#[derive(Clone, Copy, Debug, PartialEq, Eq)]
+pub struct Style {
+    pub unknown: bool,
+}
+
+/// How losses are told: with `cases` each lost case, else of each edge the first; with `join` those of the joined
+/// analysis.
+#[derive(Clone, Copy, Debug, PartialEq, Eq)]
+pub struct LossOptions {
+    pub cases: bool,
+    pub join: bool,
+}
 
 /// What an analysis is asked, as for `tvla analyze`: its files by their names, how many structures may be
-/// listed, and the mode; with `delta` the differenced program is taken, and the mode is `Given`.
+/// listed, and the mode; with `delta` the differenced program is taken, and the mode is `Given`. `style` is
+/// that of chains.
 #[derive(Debug, Drop)]
 pub struct Analyzed {
     pub program: String,
@@ -24,6 +40,7 @@ pub struct Analyzed {
     pub max: u64,
     pub mode: Mode,
     pub delta: bool,
+    pub style: Style,
 }
 
 /// What the words ask for. Files are told by their names, as the words give them.
@@ -54,10 +71,13 @@ pub enum Command {
     /// Writes what the analysis loses.
     Losses {
         of: Analyzed,
+        how: LossOptions,
     },
-    /// Writes the program that a source program is compiled to.
+    /// Writes the program that a source program is compiled to; with `updates` the one that updates what
+    /// variables reach.
     Compiled {
         source: String,
+        updates: bool,
     },
     /// Writes one abstract step of each structure of a file along the edge of this number, stage by stage.
     /// The file stands in the place of the initial structures, and `max` is that of words that don't say it.
@@ -148,41 +168,45 @@ fn three<'a>(operands: Option<&[&'a str]>) -> Option<(&'a str, &'a str, &'a str)
 /// The analysis of these files that the line's options ask for.
 fn asked(
     alloc: Global,
-    line: &Line<'_, '_>,
+    line: &AskedLine<'_, '_>,
     program: &str,
     initial: &str,
 ) -> Result<Option<Analyzed>, AllocError>
     ensures some { IfOk result (λ found. IfSome found
-        (λ a. IsAsked program.now initial.now (line_in line.now) (analyzed_of a))) }
-    ensures none { IfOk result (λ found. IfNone found (AsksNothing (line_in line.now))) }
+        (λ a. IsAsked program.now initial.now (asked_in line.now) (analyzed_of a))) }
+    ensures none { IfOk result (λ found. IfNone found (AsksNothing (asked_in line.now))) }
 {
-    let Some((mode, delta)) = updating(line.recompute, line.delta) else {
+    let Some((mode, delta)) = updating(line.line.recompute, line.line.delta) else {
         return Ok(None);
     };
-    let Some(max) = max_of(line.max) else {
+    let Some(max) = max_of(line.line.max) else {
         return Ok(None);
     };
-    if line.maps != 0 {
+    if line.line.maps != 0 {
         return Ok(None);
     }
+    let Some(style) = style_of(line) else {
+        return Ok(None);
+    };
     Ok(Some(Analyzed {
         program: String::from_str(alloc, program)?,
         initial: String::from_str(alloc, initial)?,
         max,
         mode,
         delta,
+        style,
     }))
 }
 
 /// The command of the name `show` that the line says.
-fn show(alloc: Global, line: &Line<'_, '_>) -> Result<Option<Command>, AllocError>
-    ensures some { IfOk result (λ found. IfSome found (SaidOf (IsSaid (codes "show") (line_in line.now)))) }
-    ensures none { IfOk result (λ found. IfNone found (NoneSaid (codes "show") (line_in line.now))) }
+fn show(alloc: Global, line: &AskedLine<'_, '_>) -> Result<Option<Command>, AllocError>
+    ensures some { IfOk result (λ found. IfSome found (SaidOf (IsSaid (codes "show") (asked_in line.now)))) }
+    ensures none { IfOk result (λ found. IfNone found (NoneSaid (codes "show") (asked_in line.now))) }
 {
-    let Some((program, report)) = two(line.operands) else {
+    let Some((program, report)) = two(line.line.operands) else {
         return Ok(None);
     };
-    if !has_no_flags(line) || has_values(line.max) {
+    if !is_plain(line) {
         return Ok(None);
     }
     Ok(Some(Command::Show {
@@ -192,14 +216,14 @@ fn show(alloc: Global, line: &Line<'_, '_>) -> Result<Option<Command>, AllocErro
 }
 
 /// The command of the name `edges` that the line says.
-fn edges(alloc: Global, line: &Line<'_, '_>) -> Result<Option<Command>, AllocError>
-    ensures some { IfOk result (λ found. IfSome found (SaidOf (IsSaid (codes "edges") (line_in line.now)))) }
-    ensures none { IfOk result (λ found. IfNone found (NoneSaid (codes "edges") (line_in line.now))) }
+fn edges(alloc: Global, line: &AskedLine<'_, '_>) -> Result<Option<Command>, AllocError>
+    ensures some { IfOk result (λ found. IfSome found (SaidOf (IsSaid (codes "edges") (asked_in line.now)))) }
+    ensures none { IfOk result (λ found. IfNone found (NoneSaid (codes "edges") (asked_in line.now))) }
 {
-    let Some(program) = one(line.operands) else {
+    let Some(program) = one(line.line.operands) else {
         return Ok(None);
     };
-    if !has_no_flags(line) || has_values(line.max) {
+    if !is_plain(line) {
         return Ok(None);
     }
     Ok(Some(Command::Edges {
@@ -208,14 +232,17 @@ fn edges(alloc: Global, line: &Line<'_, '_>) -> Result<Option<Command>, AllocErr
 }
 
 /// The command of the name `message` that the line says.
-fn message(alloc: Global, line: &Line<'_, '_>) -> Result<Option<Command>, AllocError>
+fn message(alloc: Global, line: &AskedLine<'_, '_>) -> Result<Option<Command>, AllocError>
     ensures some { IfOk result
-        (λ found. IfSome found (SaidOf (IsSaid (codes "message") (line_in line.now)))) }
-    ensures none { IfOk result (λ found. IfNone found (NoneSaid (codes "message") (line_in line.now))) }
+        (λ found. IfSome found (SaidOf (IsSaid (codes "message") (asked_in line.now)))) }
+    ensures none { IfOk result (λ found. IfNone found (NoneSaid (codes "message") (asked_in line.now))) }
 {
-    let Some((program, initial, edge, message)) = four(line.operands) else {
+    let Some((program, initial, edge, message)) = four(line.line.operands) else {
         return Ok(None);
     };
+    if !has_no_other(line) {
+        return Ok(None);
+    }
     let Some(edge) = number(edge) else {
         return Ok(None);
     };
@@ -229,14 +256,17 @@ fn message(alloc: Global, line: &Line<'_, '_>) -> Result<Option<Command>, AllocE
 }
 
 /// The command of the name `structure` that the line says.
-fn structure(alloc: Global, line: &Line<'_, '_>) -> Result<Option<Command>, AllocError>
+fn structure(alloc: Global, line: &AskedLine<'_, '_>) -> Result<Option<Command>, AllocError>
     ensures some { IfOk result
-        (λ found. IfSome found (SaidOf (IsSaid (codes "structure") (line_in line.now)))) }
-    ensures none { IfOk result (λ found. IfNone found (NoneSaid (codes "structure") (line_in line.now))) }
+        (λ found. IfSome found (SaidOf (IsSaid (codes "structure") (asked_in line.now)))) }
+    ensures none { IfOk result (λ found. IfNone found (NoneSaid (codes "structure") (asked_in line.now))) }
 {
-    let Some((program, initial, node, index)) = four(line.operands) else {
+    let Some((program, initial, node, index)) = four(line.line.operands) else {
         return Ok(None);
     };
+    if !has_no_other(line) {
+        return Ok(None);
+    }
     let Some(index) = number(index) else {
         return Ok(None);
     };
@@ -251,48 +281,61 @@ fn structure(alloc: Global, line: &Line<'_, '_>) -> Result<Option<Command>, Allo
 }
 
 /// The command of the name `losses` that the line says.
-fn losses(alloc: Global, line: &Line<'_, '_>) -> Result<Option<Command>, AllocError>
-    ensures some { IfOk result (λ found. IfSome found (SaidOf (IsSaid (codes "losses") (line_in line.now)))) }
-    ensures none { IfOk result (λ found. IfNone found (NoneSaid (codes "losses") (line_in line.now))) }
+fn losses(alloc: Global, line: &AskedLine<'_, '_>) -> Result<Option<Command>, AllocError>
+    ensures some { IfOk result (λ found. IfSome found (SaidOf (IsSaid (codes "losses") (asked_in line.now)))) }
+    ensures none { IfOk result (λ found. IfNone found (NoneSaid (codes "losses") (asked_in line.now))) }
 {
-    let Some((program, initial)) = two(line.operands) else {
+    let Some((program, initial)) = two(line.line.operands) else {
         return Ok(None);
     };
+    let Some(how) = loss_options(line) else {
+        return Ok(None);
+    };
+    if !has_no_style(line) || line.updates != 0 || !has_no_search(line) {
+        return Ok(None);
+    }
     let Some(of) = asked(alloc, line, program, initial)? else {
         return Ok(None);
     };
-    Ok(Some(Command::Losses { of }))
+    Ok(Some(Command::Losses { of, how }))
 }
 
 /// The command of the name `compiled` that the line says.
-fn compiled(alloc: Global, line: &Line<'_, '_>) -> Result<Option<Command>, AllocError>
+fn compiled(alloc: Global, line: &AskedLine<'_, '_>) -> Result<Option<Command>, AllocError>
     ensures some { IfOk result
-        (λ found. IfSome found (SaidOf (IsSaid (codes "compiled") (line_in line.now)))) }
-    ensures none { IfOk result (λ found. IfNone found (NoneSaid (codes "compiled") (line_in line.now))) }
+        (λ found. IfSome found (SaidOf (IsSaid (codes "compiled") (asked_in line.now)))) }
+    ensures none { IfOk result (λ found. IfNone found (NoneSaid (codes "compiled") (asked_in line.now))) }
 {
-    let Some(source) = one(line.operands) else {
+    let Some(source) = one(line.line.operands) else {
         return Ok(None);
     };
-    if !has_no_flags(line) || has_values(line.max) {
+    let Some(updates) = updates_of(line) else {
+        return Ok(None);
+    };
+    if !is_bare(line) || !has_no_style(line) || !has_no_search(line) {
+        return Ok(None);
+    }
+    if line.cases != 0 || line.join != 0 {
         return Ok(None);
     }
     Ok(Some(Command::Compiled {
         source: String::from_str(alloc, source)?,
+        updates,
     }))
 }
 
 /// The command of the name `step` that the line says.
-fn step(alloc: Global, line: &Line<'_, '_>) -> Result<Option<Command>, AllocError>
-    ensures some { IfOk result (λ found. IfSome found (SaidOf (IsSaid (codes "step") (line_in line.now)))) }
-    ensures none { IfOk result (λ found. IfNone found (NoneSaid (codes "step") (line_in line.now))) }
+fn step(alloc: Global, line: &AskedLine<'_, '_>) -> Result<Option<Command>, AllocError>
+    ensures some { IfOk result (λ found. IfSome found (SaidOf (IsSaid (codes "step") (asked_in line.now)))) }
+    ensures none { IfOk result (λ found. IfNone found (NoneSaid (codes "step") (asked_in line.now))) }
 {
-    let Some((program, structures, edge)) = three(line.operands) else {
+    let Some((program, structures, edge)) = three(line.line.operands) else {
         return Ok(None);
     };
     let Some(edge) = number(edge) else {
         return Ok(None);
     };
-    if has_values(line.max) {
+    if has_values(line.line.max) || !has_no_style(line) || !has_no_other(line) {
         return Ok(None);
     }
     let Some(of) = asked(alloc, line, program, structures)? else {
@@ -302,17 +345,21 @@ fn step(alloc: Global, line: &Line<'_, '_>) -> Result<Option<Command>, AllocErro
 }
 
 /// The command of the name `plan` that the line says.
-fn plan(alloc: Global, line: &Line<'_, '_>) -> Result<Option<Command>, AllocError>
-    ensures some { IfOk result (λ found. IfSome found (SaidOf (IsSaid (codes "plan") (line_in line.now)))) }
-    ensures none { IfOk result (λ found. IfNone found (NoneSaid (codes "plan") (line_in line.now))) }
+fn plan(alloc: Global, line: &AskedLine<'_, '_>) -> Result<Option<Command>, AllocError>
+    ensures some { IfOk result (λ found. IfSome found (SaidOf (IsSaid (codes "plan") (asked_in line.now)))) }
+    ensures none { IfOk result (λ found. IfNone found (NoneSaid (codes "plan") (asked_in line.now))) }
 {
-    let Some(program) = one(line.operands) else {
+    let Some(program) = one(line.line.operands) else {
         return Ok(None);
     };
-    let Some((mode, delta)) = updating(line.recompute, line.delta) else {
+    let Some((mode, delta)) = updating(line.line.recompute, line.line.delta) else {
         return Ok(None);
     };
-    if line.maps != 0 || has_values(line.max) {
+    if line.line.maps != 0
+        || has_values(line.line.max)
+        || !has_no_style(line)
+        || !has_no_other(line)
+    {
         return Ok(None);
     }
     Ok(Some(Command::Plan {
@@ -323,13 +370,16 @@ fn plan(alloc: Global, line: &Line<'_, '_>) -> Result<Option<Command>, AllocErro
 }
 
 /// The command of the name `counts` that the line says.
-fn counts(alloc: Global, line: &Line<'_, '_>) -> Result<Option<Command>, AllocError>
-    ensures some { IfOk result (λ found. IfSome found (SaidOf (IsSaid (codes "counts") (line_in line.now)))) }
-    ensures none { IfOk result (λ found. IfNone found (NoneSaid (codes "counts") (line_in line.now))) }
+fn counts(alloc: Global, line: &AskedLine<'_, '_>) -> Result<Option<Command>, AllocError>
+    ensures some { IfOk result (λ found. IfSome found (SaidOf (IsSaid (codes "counts") (asked_in line.now)))) }
+    ensures none { IfOk result (λ found. IfNone found (NoneSaid (codes "counts") (asked_in line.now))) }
 {
-    let Some((program, initial)) = two(line.operands) else {
+    let Some((program, initial)) = two(line.line.operands) else {
         return Ok(None);
     };
+    if !has_no_style(line) || !has_no_other(line) {
+        return Ok(None);
+    }
     match asked(alloc, line, program, initial)? {
         Some(of) => Ok(Some(Command::Counts { of })),
         None => Ok(None),
@@ -337,15 +387,15 @@ fn counts(alloc: Global, line: &Line<'_, '_>) -> Result<Option<Command>, AllocEr
 }
 
 /// The command of the name `complete` that the line says.
-fn complete(alloc: Global, line: &Line<'_, '_>) -> Result<Option<Command>, AllocError>
+fn complete(alloc: Global, line: &AskedLine<'_, '_>) -> Result<Option<Command>, AllocError>
     ensures some { IfOk result
-        (λ found. IfSome found (SaidOf (IsSaid (codes "complete") (line_in line.now)))) }
-    ensures none { IfOk result (λ found. IfNone found (NoneSaid (codes "complete") (line_in line.now))) }
+        (λ found. IfSome found (SaidOf (IsSaid (codes "complete") (asked_in line.now)))) }
+    ensures none { IfOk result (λ found. IfNone found (NoneSaid (codes "complete") (asked_in line.now))) }
 {
-    let Some((program, structures)) = two(line.operands) else {
+    let Some((program, structures)) = two(line.line.operands) else {
         return Ok(None);
     };
-    if !has_no_flags(line) || has_values(line.max) {
+    if !is_plain(line) {
         return Ok(None);
     }
     Ok(Some(Command::Complete {
@@ -399,28 +449,13 @@ fn told_bounds(asked: &AskedLine<'_, '_>) -> Option<Bounds>
     Some(Bounds { cells, states })
 }
 
-/// What is to be written of a witness, by how often `--start-only` and `--trace-only` stand.
-fn piece_of(start_only: u8, trace_only: u8) -> Option<Piece>
-    ensures some { IfSome result (ArePieces start_only trace_only) }
-    ensures none { IfNone result ((piece : Piece) → ¬ ArePieces start_only trace_only piece) }
-{
-    match (start_only, trace_only) {
-        (0, 0) => Some(Piece::Whole),
-        (1, 0) => Some(Piece::Start),
-        (0, 1) => Some(Piece::Trace),
-        _ => None,
-    }
-}
-
 /// The command of the name `witness` that the line says.
-fn witness(alloc: Global, asked_line: &AskedLine<'_, '_>) -> Result<Option<Command>, AllocError>
-    ensures some { IfOk result (λ found. IfSome found
-        (SaidOf (IsAskedBy (codes "witness") (asked_in asked_line.now)))) }
-    ensures none { IfOk result (λ found. IfNone found
-        (NoneAskedBy (codes "witness") (asked_in asked_line.now))) }
+fn witness(alloc: Global, line: &AskedLine<'_, '_>) -> Result<Option<Command>, AllocError>
+    ensures some { IfOk result
+        (λ found. IfSome found (SaidOf (IsSaid (codes "witness") (asked_in line.now)))) }
+    ensures none { IfOk result (λ found. IfNone found (NoneSaid (codes "witness") (asked_in line.now))) }
 {
-    let line = &asked_line.line;
-    let Some((program, initial, edge, message)) = four(line.operands) else {
+    let Some((program, initial, edge, message)) = four(line.line.operands) else {
         return Ok(None);
     };
     let Some(edge) = number(edge) else {
@@ -429,15 +464,15 @@ fn witness(alloc: Global, asked_line: &AskedLine<'_, '_>) -> Result<Option<Comma
     let Some(number) = number(message) else {
         return Ok(None);
     };
-    let Some(piece) = piece_of(asked_line.start_only, asked_line.trace_only) else {
+    let Some(piece) = piece_of(line.start_only, line.trace_only) else {
         return Ok(None);
     };
-    if has_values(asked_line.line.max) {
+    let Some(bounds) = told_bounds(line) else {
+        return Ok(None);
+    };
+    if !has_no_style(line) || !has_no_form(line) || has_values(line.line.max) {
         return Ok(None);
     }
-    let Some(bounds) = told_bounds(asked_line) else {
-        return Ok(None);
-    };
     let Some(of) = asked(alloc, line, program, initial)? else {
         return Ok(None);
     };
@@ -449,11 +484,10 @@ fn witness(alloc: Global, asked_line: &AskedLine<'_, '_>) -> Result<Option<Comma
     Ok(Some(Command::Witness { of, aim, bounds }))
 }
 
-/// The command of that name that the line says, if it is none that searches heaps.
-fn said(alloc: Global, name: &str, line: &Line<'_, '_>) -> Result<Option<Command>, AllocError>
-    requires other { ¬ (name.now ≡ codes "witness") }
-    ensures some { IfOk result (λ found. IfSome found (SaidOf (IsSaid name.now (line_in line.now)))) }
-    ensures none { IfOk result (λ found. IfNone found (NoneSaid name.now (line_in line.now))) }
+/// The command of that name that the line says.
+fn said(alloc: Global, name: &str, line: &AskedLine<'_, '_>) -> Result<Option<Command>, AllocError>
+    ensures some { IfOk result (λ found. IfSome found (SaidOf (IsSaid name.now (asked_in line.now)))) }
+    ensures none { IfOk result (λ found. IfNone found (NoneSaid name.now (asked_in line.now))) }
 {
     match name {
         "show" => show(alloc, line),
@@ -466,51 +500,8 @@ fn said(alloc: Global, name: &str, line: &Line<'_, '_>) -> Result<Option<Command
         "plan" => plan(alloc, line),
         "counts" => counts(alloc, line),
         "complete" => complete(alloc, line),
+        "witness" => witness(alloc, line),
         _ => Ok(None),
-    }
-}
-
-/// Whether no option of searches stands.
-fn has_no_search(asked: &AskedLine<'_, '_>) -> bool
-    ensures { IsTrue result ↔ HasNoSearch (asked_in asked.now) }
-{
-    !has_values(asked.cells)
-        && !has_values(asked.states)
-        && asked.start_only == 0
-        && asked.trace_only == 0
-}
-
-/// The command of that name that the line says, which isn't `witness`.
-#[tactic(auto, using(crate::proofs::Commands::none_with_options, crate::proofs::Commands::asked_without, crate::proofs::Commands::unasked_without))]
-fn said_without(
-    alloc: Global,
-    name: &str,
-    asked: &AskedLine<'_, '_>,
-) -> Result<Option<Command>, AllocError>
-    requires other { ¬ (name.now ≡ codes "witness") }
-    ensures some { IfOk result
-        (λ found. IfSome found (SaidOf (IsAskedBy name.now (asked_in asked.now)))) }
-    ensures none { IfOk result (λ found. IfNone found (NoneAskedBy name.now (asked_in asked.now))) }
-{
-    if !has_no_search(asked) {
-        return Ok(None);
-    }
-    said(alloc, name, &asked.line)
-}
-
-/// The command of that name that the line says.
-fn said_by(
-    alloc: Global,
-    name: &str,
-    asked: &AskedLine<'_, '_>,
-) -> Result<Option<Command>, AllocError>
-    ensures some { IfOk result
-        (λ found. IfSome found (SaidOf (IsAskedBy name.now (asked_in asked.now)))) }
-    ensures none { IfOk result (λ found. IfNone found (NoneAskedBy name.now (asked_in asked.now))) }
-{
-    match name {
-        "witness" => witness(alloc, asked),
-        _ => said_without(alloc, name, asked),
     }
 }
 
@@ -528,5 +519,5 @@ pub fn read_words(alloc: Global, words: &[String]) -> Result<Option<Command>, Al
     let Some(matches) = read_line(asked_command(alloc)?, behind)? else {
         return Ok(None);
     };
-    said_by(alloc, name.as_str(), &told_asked(&matches))
+    said(alloc, name.as_str(), &told_asked(&matches))
 }

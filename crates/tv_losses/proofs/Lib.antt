@@ -1,5 +1,4 @@
-mod Exactly
-mod Losing
-mod Searching
-mod Telling
 mod Answering
+mod Casing
+mod Losing
+mod Telling

@@ -16,61 +16,21 @@ use Rattle.tv_model.specs.Program.{ProgramForm, ActionForm, program_of}
 use Rattle.tv_model.specs.Valid.{IsEdge, IsValid}
 use Rattle.tv_model.proofs.Lists.{Contains-none, slice_get-contains}
 use Rattle.tv_structure_form.specs.StructureForm.{StructureForm, IsOver, IsStructure, structure_of}
-use Rattle.tv_struct.specs.declared.analysis.StageError.{StageError}
-use Rattle.tv_struct.specs.declared.analysis.StageError.TheVariants.{Splits, Individuals, Memory}
-use Rattle.tv_step_laws.specs.Budgets.{IsStepCause}
-use Rattle.tv_step_laws.specs.Transfer.{AreResults, HasNoOpening, IsActionOf, IsOpening}
-use Rattle.tv_step_laws.proofs.Exact.{results-once}
-use Rattle.tv_step_laws.proofs.Heaps.{action-once}
+use Rattle.tv_step_laws.specs.Transfer.{HasNoOpening}
 use Rattle.tv_step.specs.EngineForm.{EngineForm}
-use Rattle.tv_step.specs.AtHand.{IsFocusFault}
-use Rattle.tv_losses.specs.Enabled.{IsEnabledAtHand}
-use Rattle.tv_work.specs.Analyzed.{IsAtSource}
-use Rattle.tv_losses.specs.Losses.{HasNoOpeningAt, IsLost, IsLostAt, ListsNothing}
-use Rattle.tv_losses.specs.Tasks.{IsReady, reached_in}
+use Rattle.tv_step_laws.specs.Budgets.{IsStepCause}
+use Rattle.tv_struct.specs.declared.analysis.StageError.{StageError}
+use Rattle.tv_struct.specs.declared.analysis.StageError.TheVariants.{Splits as splits}
+use Rattle.tv_struct.specs.declared.analysis.StageError.TheVariants.{Individuals as individuals}
+use Rattle.tv_struct.specs.declared.analysis.StageError.TheVariants.{Memory as memory}
+use Rattle.tv_work.specs.Analyzed.{IsAtSource, work_error}
+use Rattle.tv_work.specs.Reach.{IsListed, Point}
+use Rattle.tv_work.specs.Stopped.{IsStepsCause}
+use Rattle.tv_losses.specs.Losses.{HasNoOpeningAt, HasNothingAt, HasNothingAtHand, ListsNothing}
+use Rattle.tv_losses.specs.Tasks.{IsReady}
 use Rattle.tv_losses.specs.declared.task.Task.{Task}
 
--- a structure that gives something isn't lost
-pub not-lost : (p : ProgramForm) → IsValid p → (mode : Mode) (edge : ℕ) (s : StructureForm)
-    (results : List StructureForm) → AreResults p mode edge s results → ¬ (results ≡ []) → ¬ IsLost p mode edge s
-not-lost p valid mode edge s results are some lost =
-    some (results-once p valid mode edge s results [] are lost.none)
-
--- one that gives nothing is where the action is enabled
-pub lost-enabled : (p : ProgramForm) (mode : Mode) (edge : ℕ) (s : StructureForm) (action : ActionForm)
-    (results : List StructureForm) → AreResults p mode edge s results → results ≡ [] → IsActionOf p edge action
-    → IsEnabledAtHand p action s ↔ IsLost p mode edge s
-lost-enabled p mode edge s action results are none its = (
-  λ enabled. record {
-    none = subst (AreResults p mode edge s) none are;
-    action = action;
-    its_action = its;
-    enabled = enabled;
-  },
-  λ lost. subst (λ a. IsEnabledAtHand p a s) (action-once p edge lost.action action lost.its_action its)
-      lost.enabled,
-)
-
--- a budget that focus meets is one of the step
-pub focus-step : (p : ProgramForm) (edge : ℕ) (action : ActionForm) (s : StructureForm) (e : StageError)
-    → IsActionOf p edge action → IsFocusFault p action s e → IsStepCause p edge s e
-focus-step p edge action s Splits its many = record { action = action; its_action = its; many = inl many }
-focus-step p edge action s Individuals its large
-    = record { action = action; its_action = its; large = inl large }
-focus-step p edge action s Memory its cause = tt
-
 -- ---- openings
-
-pub unopened-is : (p : ProgramForm) (s : StructureForm) (found : Option StructureForm) (r : Bool)
-    → IfSome found (IsOpening p s) → IfNone found (HasNoOpening p s) → is_some found ≡ not r
-    → IsTrue r ↔ HasNoOpening p s
-unopened-is p s None true some none is = (λ e. none, λ h. refl)
-unopened-is p s None false some none is = absurd (true≢false (sym is))
-unopened-is p s (Some t) true some none is = absurd (true≢false is)
-unopened-is p s (Some t) false (c, coerced, blur) none is = (
-  λ e. absurd (true≢false (sym e)),
-  λ h. absurd (h (structure_of c) coerced.greatest.below coerced.greatest.stable),
-)
 
 pub opening-at : (p : ProgramForm) (initial : List StructureForm) (k : ℕ) (s : StructureForm)
     → slice_get initial k ≡ Some s → HasNoOpening p s ↔ HasNoOpeningAt p initial k
@@ -82,18 +42,18 @@ opening-at p initial k s at = (
 
 -- ---- places
 
-pub lost-at : (p : ProgramForm) (mode : Mode) (edge : ℕ) (source : List StructureForm) (k : ℕ)
+pub nowhere-at : (p : ProgramForm) (action : ActionForm) (source : List StructureForm) (k : ℕ)
     (s : StructureForm) → slice_get source k ≡ Some s
-    → IsLost p mode edge s ↔ IsLostAt p mode edge source k
-lost-at p mode edge source k s at = (
-  λ lost. (s, at, lost),
-  λ (t, there, lost). let e : Some t ≡ Some s = sym there ∙ at
-      in let same : t ≡ s = cc in subst (IsLost p mode edge) same lost,
+    → HasNothingAtHand p action s ↔ HasNothingAt p action source k
+nowhere-at p action source k s at = (
+  λ none. (s, at, none),
+  λ (t, there, none). let e : Some t ≡ Some s = sym there ∙ at
+      in let same : t ≡ s = cc in subst (HasNothingAtHand p action) same none,
 )
 
-pub lost-within : (p : ProgramForm) (mode : Mode) (edge : ℕ) (source : List StructureForm) (k : ℕ)
-    → IsLostAt p mode edge source k → k < length source
-lost-within p mode edge source k (s, at, lost) = slice_get_within source k s at
+pub nowhere-within : (p : ProgramForm) (action : ActionForm) (source : List StructureForm) (k : ℕ)
+    → HasNothingAt p action source k → k < length source
+nowhere-within p action source k (s, at, none) = slice_get_within source k s at
 
 pub unopened-within : (p : ProgramForm) (initial : List StructureForm) (k : ℕ) → HasNoOpeningAt p initial k
     → k < length initial
@@ -136,20 +96,19 @@ listed-all P listing all node s has = by (cases_lt node (length listing))
     by (inl lt) = All-contains P (at_node listing node) s (all node [] lt) has
     by (inr past) = absurd (Contains-none s (subst (λ ss. Contains ss s) (get_or_past listing node [] past) has))
 
-module _ (x : Task) (stepper : EngineForm) (ready : IsReady x stepper) (number : ℕ) (edge : Edge)
-    (is : slice_get x.program.now.edges number ≡ Some edge) (s : StructureForm)
-    (has : Contains (at_node x.listing.now edge.from) s) where
-  pub listed-over : IsOver x.program.now.vocab s
-  listed-over =
-      (listed-all (λ t. IsStructure t × IsOver x.program.now.vocab t) x.listing.now ready.over edge.from s has).1
+pub at-source : (p : ProgramForm) (listing : List (List StructureForm)) (number : ℕ) (edge : Edge)
+    → slice_get p.edges number ≡ Some edge → (s : StructureForm) → Contains (at_node listing edge.from) s
+    → IsAtSource p number (IsListed listing) (record { node = edge.from; structure = s })
+at-source p listing number edge is s has = record { taken = edge; is_edge = is; leaves = refl; has = has }
 
-  pub at-source : IsAtSource (program_of x.program.now) number (reached_in x) (record { node = edge.from; structure = s })
-  at-source = record {
-    taken = edge;
-    is_edge = is;
-    leaves = refl;
-    has = ready.reached (record { node = edge.from; structure = s }) has;
-  }
+-- the step of a structure at its edge's source has no answer
+pub listed-cause : (p : ProgramForm) (edge : ℕ) (P : Point → Type 0) (x : Point) → IsAtSource p edge P x
+    → (fault : StageError) → IsStepCause p edge x.structure fault → IsStepsCause p P (work_error fault)
+listed-cause p edge P x source splits cause =
+    record { edge = edge; at = x; source = source; budget = cause }
+listed-cause p edge P x source individuals cause =
+    record { edge = edge; at = x; source = source; budget = cause }
+listed-cause p edge P x source memory cause = tt
 
 -- ---- edges of a valid program
 
@@ -166,16 +125,3 @@ module _ (p : ProgramForm) (valid : IsValid p) (number : ℕ) (edge : Edge)
 
 pub ready-again : (x : Task) (old new : EngineForm) → new ≡ old → IsReady x old → IsReady x new
 ready-again x old new same ready = subst (IsReady x) (sym same) ready
-
--- ---- results
-
-pub are-some : (results slice : List StructureForm) (r : Bool) → slice ≡ results → r ≡ (length slice == 0)
-    → r ≡ false → ¬ (results ≡ [])
-are-some results slice r same is isnt none =
-    true≢false (sym (is ∙ ap (λ ss. length ss == 0) (same ∙ none)) ∙ isnt)
-
-pub are-none : (results slice : List StructureForm) (r : Bool) → slice ≡ results → r ≡ (length slice == 0)
-    → r ≡ true → results ≡ []
-are-none results [] r same is holds = sym same
-are-none results (s ∷ slice) r same is holds =
-    absurd (omega (arith, eqb-true (length (s ∷ slice)) 0 (sym is ∙ holds)))

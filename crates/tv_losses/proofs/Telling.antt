@@ -1,35 +1,52 @@
 -- The edges of which losses are told, one after the other.
-use Rattle.std.proofs.Common.{ℕ, ◌≡◌, ◌≢◌, ◌∙◌, ◌<◌, ◌+◌, ◌⊎◌, inl, inr, List, [], ◌∷◌, ◌++◌, Option, None}
-use Rattle.std.proofs.Common.{Some, length, get_or}
-use Rattle.std.proofs.Common.{refl, sym, subst, arith, All, Contains, slice_get}
-use Rattle.std.specs.Prelude.{AllPairs, Any, IfSome, IfNone}
-use Rattle.std.proofs.lemmas.List.{append-nil}
+use Rattle.std.proofs.Common.{ℕ, ◌≡◌, ◌≢◌, ◌∙◌, ◌<◌, ◌+◌, ◌↔◌, ◌⊎◌, inl, inr, ⊎_elim, Bool, true, false, IsTrue, List}
+use Rattle.std.proofs.Common.{[], ◌∷◌, ◌++◌, Some, length, get_or, take, true≢false}
+use Rattle.std.proofs.Common.{refl, sym, ap, subst, arith, All, Contains, slice_get}
+use Rattle.std.specs.Prelude.{AllPairs, Any}
 use Rattle.std.proofs.lemmas.Bool.{cases_eq}
-use Rattle.std.proofs.lemmas.List.Elements.{All-append, All-cons, All-nil, Contains-append_left}
-use Rattle.std.proofs.lemmas.List.Elements.{Contains-push}
+use Rattle.std.proofs.lemmas.List.{get_or-take, length-take-le}
+use Rattle.std.proofs.lemmas.List.Elements.{All-append, All-cons, All-nil, All-weaker, Contains-append_left}
+use Rattle.std.proofs.lemmas.List.Elements.{Contains-push, Contains-push_cases}
+use Rattle.std.proofs.lemmas.Option.{get_or_from_slice_get, slice_get_within}
 use Rattle.std.proofs.lemmas.List.Quantifiers.{all_pairs_push}
+use Rattle.tv_lemmas.proofs.Lists.{found_at}
 use Rattle.tv_listing.specs.ListingForm.{at_node}
 use Rattle.tv_model.specs.declared.program.Edge.{Edge}
 use Rattle.tv_model.specs.declared.program.Mode.{Mode}
-use Rattle.tv_model.specs.Program.{ProgramForm}
+use Rattle.tv_model.specs.Program.{ProgramForm, ActionForm}
 use Rattle.tv_model.proofs.Lists.{Contains-none}
 use Rattle.tv_structure_form.specs.StructureForm.{StructureForm}
-use Rattle.tv_losses.specs.Losses.{AreExactly, IsLostAt, IsEdgeLoss, AreEdgeLosses}
-use Rattle.tv_losses.specs.Tasks.{Tells, list_of}
+use Rattle.tv_step_laws.specs.Transfer.{IsActionOf}
+use Rattle.tv_step_laws.proofs.Heaps.{action-once}
+use Rattle.tv_losses_laws.specs.Cases.{IsLostCase, IsSureCase, IsDroppedCase}
+use Rattle.tv_losses_cases.specs.Cases.{AreCases}
+use Rattle.tv_edge_order.specs.Order.{IsMetBefore}
+use Rattle.tv_losses.specs.Losses.{AreEdgeLosses, HasLostCase, HasNothingAtHand, IsEdgeLoss, IsNowhere, LosesAlong}
 use Rattle.tv_losses.specs.declared.told.EdgeLoss.{EdgeLoss}
+use Rattle.tv_losses.proofs.Casing.{case-among, case-of, cases-of_listed, none-lost}
 
 -- one of these is told of the edge
 abbrev pub IsTold : List EdgeLoss → (edge : ℕ) → Type 0
 IsTold losses edge = Any (λ loss. loss.edge ≡ edge) losses
 
--- the edges below n, along which a structure is lost
-pub record AreTold (p : ProgramForm) (mode : Mode) (listing : List (List StructureForm)) (n : ℕ)
-    (losses : List EdgeLoss) : Type 0 where
-  pub each : All (IsEdgeLoss p mode listing) losses
-  pub all : (edge place : ℕ) (taken : Edge) → edge < n → slice_get p.edges edge ≡ Some taken
-      → IsLostAt p mode edge (at_node listing taken.from) place → IsTold losses edge
-  pub below : All (λ loss. loss.edge < n) losses
-  pub ordered : AllPairs (λ a b. a.edge < b.edge) losses
+-- something is lost of the structure along the edge
+abbrev pub IsLostAlong : ProgramForm → Mode → (edge : ℕ) → StructureForm → Type 0
+IsLostAlong p mode edge s = HasLostCase p mode edge s ⊎ IsNowhere p edge s
+
+-- of these edges those along which something is lost
+pub record AreTold (p : ProgramForm) (mode : Mode) (all : Bool) (listing : List (List StructureForm))
+    (seen : List ℕ) (losses : List EdgeLoss) : Type 0 where
+  pub each : All (IsEdgeLoss p mode all listing) losses
+  pub some : All LosesAlong losses
+  pub none_missing : (edge : ℕ) (taken : Edge) (s : StructureForm) → Contains seen edge
+      → slice_get p.edges edge ≡ Some taken → Contains (at_node listing taken.from) s → IsLostAlong p mode edge s
+      → IsTold losses edge
+  pub among : All (λ loss. Contains seen loss.edge) losses
+  pub ordered : AllPairs (λ a b. IsMetBefore (length p.nodes) p.edges a.edge b.edge) losses
+
+no-places : (ns : List ℕ) → length ns ≡ 0 → ns ≡ []
+no-places [] e = refl
+no-places (n ∷ ns) e = absurd (omega (arith, e))
 
 any-left : (losses : List EdgeLoss) (loss : EdgeLoss) (edge : ℕ) → IsTold losses edge
     → IsTold (losses ++ loss ∷ []) edge
@@ -40,100 +57,133 @@ any-last : (losses : List EdgeLoss) (loss : EdgeLoss) → IsTold (losses ++ loss
 any-last losses loss =
     let there = Contains-push losses loss in (there.0, loss, there.1, there.2, refl)
 
-module _ (p : ProgramForm) (mode : Mode) (listing : List (List StructureForm)) where
-  pub told-none : AreTold p mode listing 0 []
+module _ (p : ProgramForm) (mode : Mode) (all : Bool) (listing : List (List StructureForm)) where
+  pub told-none : AreTold p mode all listing [] []
   told-none = record {
-    each = All-nil (IsEdgeLoss p mode listing);
-    all = λ edge place taken lt is lost. absurd (omega (arith, lt));
-    below = All-nil (λ loss. loss.edge < 0);
+    each = All-nil (IsEdgeLoss p mode all listing);
+    some = All-nil LosesAlong;
+    none_missing = λ edge taken s has is at lost. absurd (Contains-none edge has);
+    among = All-nil (λ (loss : EdgeLoss). Contains [] loss.edge);
     ordered = λ i j d before within. absurd (omega (arith, within));
   }
 
-  pub none-told : (losses : List EdgeLoss) → losses ≡ [] → AreTold p mode listing 0 losses
-  none-told losses none = subst (AreTold p mode listing 0) (sym none) told-none
+  pub none-told : (losses : List EdgeLoss) → losses ≡ [] → AreTold p mode all listing [] losses
+  none-told losses none = subst (AreTold p mode all listing []) (sym none) told-none
 
-  module _ (n : ℕ) (taken : Edge) (is_edge : slice_get p.edges n ≡ Some taken) (places : List ℕ)
-      (are : AreExactly (IsLostAt p mode n (at_node listing taken.from)) places)
-      (losses : List EdgeLoss) (told : AreTold p mode listing n losses) where
-    same-edge : (other : Edge) → slice_get p.edges n ≡ Some other → other ≡ taken
-    same-edge other is = let e : Some other ≡ Some taken = sym is ∙ is_edge in cc
+  -- where no case is counted as lost, and none as nowhere, nothing is lost along the edge
+  nothing-lost : (loss : EdgeLoss) → IsEdgeLoss p mode all listing loss → ¬ LosesAlong loss → (taken : Edge)
+      → slice_get p.edges loss.edge ≡ Some taken → (s : StructureForm) → Contains (at_node listing taken.from) s
+      → ¬ IsLostAlong p mode loss.edge s
+  nothing-lost loss is none taken at s has lost =
+      let e : Some is.taken ≡ Some taken = sym is.is_edge ∙ at
+      in let same : is.taken ≡ taken = cc
+      in let source : Contains (at_node listing is.taken.from) s
+      = subst (λ (w : Edge). Contains (at_node listing w.from) s) (sym same) has
+      in ⊎_elim (of-case source) (of-nowhere source) lost
+    where
+      zero-lost : loss.tally.lost ≡ 0
+      zero-lost = ⊎_elim (λ e. e) (λ other. absurd (none (inl other))) (cases_eq loss.tally.lost 0)
+
+      zero-without : loss.without ≡ 0
+      zero-without = ⊎_elim (λ e. e) (λ other. absurd (none (inr other))) (cases_eq loss.without 0)
+
+      of-case : Contains (at_node listing is.taken.from) s → ¬ HasLostCase p mode loss.edge s
+      of-case source (c, case) =
+          let same = action-once p loss.edge case.action is.action case.its_action is.its_action
+          in let sure = subst (λ a. IsSureCase p a s c) same case.is_case
+          in let own = cases-of_listed p is.action s c sure
+          in let among = case-among p is.action 0 (at_node listing is.taken.from) is.cases is.are_cases s source
+          own.0 own.1 c (case-of p is.action s c sure own.0 own.1)
+          in none-lost p mode is.action all is.cases loss.tally is.tallied zero-lost among.0 among.1
+          (subst (IsDroppedCase p mode is.action) (sym among.2)
+          (subst (λ a. IsDroppedCase p mode a c) same case.dropped))
+
+      of-nowhere : Contains (at_node listing is.taken.from) s → ¬ IsNowhere p loss.edge s
+      of-nowhere source (action, its, nothing) =
+          let same = action-once p loss.edge action is.action its is.its_action
+          in let at = found_at (at_node listing is.taken.from) s source
+          in let there = (is.are.each at.0).1 (s, at.1, subst (λ a. HasNothingAtHand p a s) same nothing)
+          in Contains-none at.0
+          (subst (λ ns. Contains ns at.0) (no-places is.places (sym is.without ∙ zero-without)) there)
+
+  module _ (seen : List ℕ) (n : ℕ) (before : (k : ℕ) → Contains seen k → IsMetBefore (length p.nodes) p.edges k n)
+      (losses : List EdgeLoss) (told : AreTold p mode all listing seen losses) (loss : EdgeLoss)
+      (is : IsEdgeLoss p mode all listing loss) (of : loss.edge ≡ n) where
+    abbrev Seen : EdgeLoss → Type 0
+    Seen own = Contains seen own.edge
+
+    abbrev Now : EdgeLoss → Type 0
+    Now own = Contains (seen ++ n ∷ []) own.edge
+
+    still : (own : EdgeLoss) → Seen own → Now own
+    still own has = Contains-append_left seen (n ∷ []) own.edge has
 
     -- nothing is lost along it
-    pub told-less : places ≡ [] → AreTold p mode listing (n + 1) losses
+    told-less : ¬ LosesAlong loss → AreTold p mode all listing (seen ++ n ∷ []) losses
     told-less none = record {
       each = told.each;
-      all = all;
-      below = λ k d lt. let before : (get_or losses k d).edge < n = told.below k d lt in omega (arith, before);
+      some = told.some;
+      none_missing = λ edge taken s has at there lost. ⊎_elim
+          (λ old. told.none_missing edge taken s old at there lost)
+          (λ e. absurd (nothing-lost loss is none taken
+          (subst (λ k. slice_get p.edges k ≡ Some taken) (sym e ∙ sym of) at) s there
+          (subst (λ k. IsLostAlong p mode k s) (sym e ∙ sym of) lost)))
+          (Contains-push_cases seen n edge has);
+      among = All-weaker Seen Now still losses told.among;
       ordered = told.ordered;
     }
-      where
-        all : (edge place : ℕ) (other : Edge) → edge < n + 1 → slice_get p.edges edge ≡ Some other
-            → IsLostAt p mode edge (at_node listing other.from) place → IsTold losses edge
-        all edge place other lt is lost = by (cases_eq edge n)
-          where
-            by : (edge ≡ n) ⊎ (edge ≢ n) → IsTold losses edge
-            by (inr differs) = told.all edge place other (omega (arith, lt, differs)) is lost
-            by (inl e) =
-                let at_n : slice_get p.edges n ≡ Some other
-                = subst (λ k. slice_get p.edges k ≡ Some other) e is
-                in let own : IsLostAt p mode n (at_node listing taken.from) place
-                = subst (λ (w : Edge). IsLostAt p mode n (at_node listing w.from) place) (same-edge other at_n)
-                (subst (λ k. IsLostAt p mode k (at_node listing other.from) place) e lost)
-                in absurd (Contains-none place (subst (λ ns. Contains ns place) none ((are.each place).1 own)))
 
-    -- what is told of it is right
-    pub tells-right : (loss : EdgeLoss) → Tells n (length (at_node listing taken.from)) places loss
-        → IsEdgeLoss p mode listing loss
-    tells-right loss tells = record {
-      taken = taken;
-      is_edge = subst (λ k. slice_get p.edges k ≡ Some taken) (sym tells.edge_is) is_edge;
-      places = places;
-      are = subst (λ k. AreExactly (IsLostAt p mode k (at_node listing taken.from)) places) (sym tells.edge_is)
-          are;
-      lost = tells.lost;
-      first = tells.first;
-      listed = tells.listed_are;
+    told-more : LosesAlong loss → AreTold p mode all listing (seen ++ n ∷ []) (losses ++ loss ∷ [])
+    told-more some = record {
+      each = All-append (IsEdgeLoss p mode all listing) losses (loss ∷ []) told.each
+          (All-cons (IsEdgeLoss p mode all listing) loss [] is (All-nil (IsEdgeLoss p mode all listing)));
+      some = All-append LosesAlong losses (loss ∷ []) told.some
+          (All-cons LosesAlong loss [] some (All-nil LosesAlong));
+      none_missing = λ edge taken s has at there lost. ⊎_elim
+          (λ old. any-left losses loss edge (told.none_missing edge taken s old at there lost))
+          (λ e. subst (IsTold (losses ++ loss ∷ [])) (of ∙ e) (any-last losses loss))
+          (Contains-push_cases seen n edge has);
+      among = All-append Now losses (loss ∷ []) (All-weaker Seen Now still losses told.among)
+          (All-cons Now loss [] (subst (Contains (seen ++ n ∷ [])) (sym of) (Contains-push seen n)) (All-nil Now));
+      ordered = all_pairs_push (λ a b. IsMetBefore (length p.nodes) p.edges a.edge b.edge) losses loss told.ordered
+          (λ k d lt. subst (IsMetBefore (length p.nodes) p.edges (get_or losses k d).edge) (sym of)
+          (before (get_or losses k d).edge (told.among k d lt)));
     }
 
-    pub told-more : (loss : EdgeLoss) → Tells n (length (at_node listing taken.from)) places loss
-        → AreTold p mode listing (n + 1) (losses ++ loss ∷ [])
-    told-more loss tells = record {
-      each = All-append (IsEdgeLoss p mode listing) losses (loss ∷ []) told.each
-          (All-cons (IsEdgeLoss p mode listing) loss [] (tells-right loss tells)
-          (All-nil (IsEdgeLoss p mode listing)));
-      all = all;
-      below = All-append Below losses (loss ∷ [])
-          (λ k d lt. let before : (get_or losses k d).edge < n = told.below k d lt in omega (arith, before))
-          (All-cons Below loss [] (omega (arith, tells.edge_is)) (All-nil Below));
-      ordered = all_pairs_push (λ a b. a.edge < b.edge) losses loss told.ordered
-          (λ k d lt. let before : (get_or losses k d).edge < n = told.below k d lt
-          in omega (arith, before, tells.edge_is));
-    }
+    pub told-next : (new : List EdgeLoss) → (LosesAlong loss → new ≡ losses ++ loss ∷ [])
+        → ((¬ LosesAlong loss) → new ≡ losses) → AreTold p mode all listing (seen ++ n ∷ []) new
+    told-next new more less = by (cases_eq loss.tally.lost 0) (cases_eq loss.without 0)
       where
-        Below : EdgeLoss → Type 0
-        Below own = own.edge < n + 1
+        with : LosesAlong loss → AreTold p mode all listing (seen ++ n ∷ []) new
+        with lost = subst (AreTold p mode all listing (seen ++ n ∷ [])) (sym (more lost)) (told-more lost)
 
-        all : (edge place : ℕ) (other : Edge) → edge < n + 1 → slice_get p.edges edge ≡ Some other
-            → IsLostAt p mode edge (at_node listing other.from) place → IsTold (losses ++ loss ∷ []) edge
-        all edge place other lt is lost = by (cases_eq edge n)
-          where
-            by : (edge ≡ n) ⊎ (edge ≢ n) → IsTold (losses ++ loss ∷ []) edge
-            by (inr differs) = any-left losses loss edge (told.all edge place other (omega (arith, lt, differs)) is lost)
-            by (inl e) = subst (IsTold (losses ++ loss ∷ [])) (tells.edge_is ∙ sym e) (any-last losses loss)
+        none-of : loss.tally.lost ≡ 0 → loss.without ≡ 0 → ¬ LosesAlong loss
+        none-of none zero (inl lost) = lost none
+        none-of none zero (inr without) = without zero
 
-    pub told-next : (loss : Option EdgeLoss) (new : List EdgeLoss)
-        → IfSome loss (Tells n (length (at_node listing taken.from)) places) → IfNone loss (places ≡ [])
-        → new ≡ losses ++ list_of loss → AreTold p mode listing (n + 1) new
-    told-next None new some none is =
-        subst (AreTold p mode listing (n + 1)) (sym (is ∙ append-nil losses)) (told-less none)
-    told-next (Some loss) new some none is =
-        subst (AreTold p mode listing (n + 1)) (sym is) (told-more loss some)
+        by : (loss.tally.lost ≡ 0) ⊎ (loss.tally.lost ≢ 0) → (loss.without ≡ 0) ⊎ (loss.without ≢ 0)
+            → AreTold p mode all listing (seen ++ n ∷ []) new
+        by (inr lost) without = with (inl lost)
+        by (inl none) (inr without) = with (inr without)
+        by (inl none) (inl zero) =
+            subst (AreTold p mode all listing (seen ++ n ∷ [])) (sym (less (none-of none zero)))
+            (told-less (none-of none zero))
 
-  pub told-all : (n : ℕ) (losses : List EdgeLoss) → AreTold p mode listing n losses
-      → ((edge : ℕ) (taken : Edge) → slice_get p.edges edge ≡ Some taken → edge < n)
-      → AreEdgeLosses p mode listing losses
-  told-all n losses told most = record {
+  pub told-all : (seen : List ℕ) (losses : List EdgeLoss) → AreTold p mode all listing seen losses
+      → ((edge : ℕ) (taken : Edge) → slice_get p.edges edge ≡ Some taken → Contains seen edge)
+      → AreEdgeLosses p mode all listing losses
+  told-all seen losses told most = record {
     each = told.each;
-    all = λ edge place taken is lost. told.all edge place taken (most edge taken is) is lost;
+    some = told.some;
+    none_missing = λ edge taken s at has lost. told.none_missing edge taken s (most edge taken at) at has lost;
     ordered = told.ordered;
   }
+
+-- what stands before a place comes before what stands there
+pub before-at : (R : ℕ → ℕ → Type 0) (xs : List ℕ) (k x : ℕ) → AllPairs R xs → slice_get xs k ≡ Some x → (y : ℕ)
+    → Contains (take k xs) y → R y x
+before-at R xs k x pairs at y (j, lt, is) =
+    let within = slice_get_within xs k x at in
+    let early : j < k = omega (arith, lt, length-take-le k xs (omega (arith, within))) in
+    subst (R y) (get_or_from_slice_get xs k x y at)
+    (subst (λ z. R z (get_or xs k y)) (sym (get_or-take k xs j y early) ∙ is) (pairs j k y early within))

@@ -1,4 +1,2 @@
-pub mod Cases
-pub mod Enabled
 pub mod Losses
 pub mod Tasks

@@ -1,41 +1,43 @@
 -- What losses are looked for in, as the code holds it.
-use Rattle.std.specs.Prelude.{ℕ, ◌≡◌, List, [], ◌∷◌, length, Option, None, Some, All, slice_get}
+use Rattle.std.specs.Prelude.{ℕ, ◌≡◌, List, length, All}
 use Rattle.tv_model.specs.Program.{program_of}
 use Rattle.tv_model.specs.Valid.{IsValid}
 use Rattle.tv_step.specs.EngineForm.{EngineForm}
-use Rattle.tv_structure_form.specs.StructureForm.{IsOver, IsStructure}
-use Rattle.tv_work.specs.Analyzed.{IsWorkCause}
+use Rattle.tv_structure_form.specs.StructureForm.{IsOver, StructureForm}
+use Rattle.tv_work.specs.Reach.{IsListed}
+use Rattle.tv_work.specs.Stopped.{IsStepsCause}
 use Rattle.tv_work.specs.declared.error.WorkError.{WorkError}
-use Rattle.tv_work.specs.Reach.{Point, IsListed, IsReached}
+use Rattle.tv_losses.specs.Losses.{AreLossesIn, IsEdgeLoss}
+use Rattle.tv_losses.specs.declared.asked.Asked.{Asked}
 use Rattle.tv_losses.specs.declared.task.Task.{Task}
 use Rattle.tv_losses.specs.declared.told.EdgeLoss.{EdgeLoss}
+use Rattle.tv_losses.specs.declared.told.Losses.{Losses}
 
--- the points that the analysis reaches
-abbrev pub reached_in : Task → Point → Type 0
-reached_in x = IsReached (program_of x.program.now) x.mode x.initial.now
-
--- the program is valid, and the stepper is that of the program and the mode; the structures are over its
--- vocabulary, and those that are listed, at its nodes, are reached
-pub record IsReady (x : Task) (stepper : EngineForm) : Type 0 where
+-- the program is valid, and the initial structures are over its vocabulary
+pub record CanBeAsked (x : Asked) : Type 0 where
   pub valid : IsValid (program_of x.program.now)
-  pub made : stepper ≡ record { program = x.program.now; mode = x.mode }
   pub initial : All (IsOver x.program.now.vocab) x.initial.now
-  pub nodes : length x.listing.now ≡ length (program_of x.program.now).nodes
-  pub over : All (All (λ s. IsStructure s × IsOver x.program.now.vocab s)) x.listing.now
-  pub reached : (at : Point) → IsListed x.listing.now at → reached_in x at
 
--- why the steps of listed structures aren't done, however many structures may be listed
-abbrev pub IsLossCause : Task → WorkError → Type 0
-IsLossCause x e = (max : ℕ) → IsWorkCause (program_of x.program.now) max (reached_in x) e
+-- the listing has so many nodes as the program, and structures over its vocabulary at them
+pub record IsListingOver (x : Asked) (listing : List (List StructureForm)) : Type 0 where
+  pub nodes : length listing ≡ length (program_of x.program.now).nodes
+  pub over : All (All (IsOver x.program.now.vocab)) listing
 
--- what is told of an edge where the structures at these places are lost
-pub record Tells (edge listed : ℕ) (places : List ℕ) (loss : EdgeLoss) : Type 0 where
-  pub edge_is : loss.edge ≡ edge
-  pub lost : loss.lost ≡ length places
-  pub listed_are : loss.listed ≡ listed
-  pub first : slice_get places 0 ≡ Some loss.first
+-- these are the losses that are asked for, where this is listed
+abbrev pub AreLossesOf : Asked → (listing : List (List StructureForm)) → Losses → Type 0
+AreLossesOf x listing losses = AreLossesIn (program_of x.program.now) x.mode x.all x.initial.now listing losses
 
--- what there is, as a list
-abbrev pub list_of : Option EdgeLoss → List EdgeLoss
-list_of None = []
-list_of (Some loss) = loss ∷ []
+-- the step of a listed structure has no answer
+abbrev pub IsListedCause : Asked → (listing : List (List StructureForm)) → WorkError → Type 0
+IsListedCause x listing e = IsStepsCause (program_of x.program.now) (IsListed listing) e
+
+-- all can be asked, and what tries cases does so of the program and the mode
+pub record IsReady (x : Task) (trier : EngineForm) : Type 0 where
+  pub asked : CanBeAsked x.of.now
+  pub listing : IsListingOver x.of.now x.listing.now
+  pub made : trier ≡ record { program = x.of.now.program.now; mode = x.of.now.mode }
+
+-- it tells of the edge of this number
+pub record TellsOfEdge (x : Task) (edge : ℕ) (loss : EdgeLoss) : Type 0 where
+  pub is : IsEdgeLoss (program_of x.of.now.program.now) x.of.now.mode x.of.now.all x.listing.now loss
+  pub of : loss.edge ≡ edge

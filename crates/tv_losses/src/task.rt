@@ -1,16 +1,13 @@
 //! What losses are looked for in.
 
+use crate::asked::Asked;
 use std::alloc::Global;
 use tv_listing::Listing;
-use tv_model::{Mode, Program};
-use tv_struct::Structure;
 
-/// A program in a mode, the initial structures, and what the analysis listed.
+/// What is asked for, and what is listed.
 #[derive(Clone, Copy)]
-pub(crate) struct Task<'a, 'b> {
+pub(crate) struct Task<'a, 'b, 'c> {
     pub alloc: Global,
-    pub program: &'a Program,
-    pub mode: Mode,
-    pub initial: &'a [Structure],
-    pub listing: &'b Listing,
+    pub of: &'a Asked<'b>,
+    pub listing: &'c Listing,
 }

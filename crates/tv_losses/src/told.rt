@@ -1,53 +1,52 @@
 //! What is told of losses.
 
-ghost use Rattle.std.specs.Prelude.{◌≡◌, ◌↔◌, [], ◌∷◌, ◌++◌, IsTrue, OnOk, if◌then◌else◌};
+ghost use Rattle.std.specs.Prelude.{◌≡◌, ◌↔◌, [], IsTrue};
+ghost use Rattle.tv_losses.specs.Losses.{LosesAlong};
 
-use std::alloc::AllocError;
+use tv_edge_order::Places;
+use tv_losses_cases::Tally;
 use tv_model::Items;
 
-/// Places in a list, from 0 on.
-pub type Places = Items<usize>;
-
-/// Puts the place behind the others, if the flag is set.
-pub(crate) fn push_if(places: &mut Places, on: bool, place: usize) -> Result<(), AllocError>
-    ensures { OnOk result (places.new ≡ (if on then places.old ++ place ∷ [] else places.old)) }
-{
-    if !on {
-        return Ok(());
-    }
-    places.push(place)
-}
-
-/// An edge along which structures are lost: how many of how many that are listed at its source, and the place
-/// of the first of them.
-#[derive(Clone, Copy, Debug, PartialEq, Eq)]
+/// What is told of an edge: its cases, how many of them are lost, and of how many of the structures that are
+/// listed at its source nothing is at hand.
+#[derive(Debug, Drop)]
 pub struct EdgeLoss {
     pub edge: u32,
-    pub lost: usize,
+    pub tally: Tally,
+    pub without: usize,
     pub listed: usize,
-    pub first: usize,
+}
+
+impl EdgeLoss {
+    /// Whether a case is lost along the edge, or nothing is at hand of a structure.
+    pub(crate) fn is_any(&self) -> bool
+        ensures { IsTrue result ↔ LosesAlong self.now }
+    {
+        self.tally.lost != 0 || self.without != 0
+    }
 }
 
 /// A list of such edges.
 pub type EdgeLosses = Items<EdgeLoss>;
 
-/// What an analysis may owe its silence to, in the order of the files.
+/// What an analysis may owe its silence to, causes first.
 #[derive(Debug, Drop)]
 pub struct Losses {
+    /// Whether more structures are reached than may be listed, so that this is told of those listed until then.
+    pub passed: bool,
     /// The initial structures that have no opening.
     pub initial: Places,
-    /// The nodes at which nothing is listed.
-    pub nodes: Places,
+    /// The edges along which a case is lost, or nothing is at hand of a structure.
     pub edges: EdgeLosses,
+    /// The nodes at which nothing is listed, which isn't a loss.
+    pub nodes: Places,
 }
 
 impl Losses {
     /// Whether nothing is lost.
     pub fn are_none(&self) -> bool
-        ensures { IsTrue result ↔ ((self.now.initial ≡ []) × (self.now.nodes ≡ []) × (self.now.edges ≡ [])) }
+        ensures { IsTrue result ↔ ((self.now.initial ≡ []) × (self.now.edges ≡ [])) }
     {
-        self.initial.as_slice().is_empty()
-            && self.nodes.as_slice().is_empty()
-            && self.edges.as_slice().is_empty()
+        self.initial.as_slice().is_empty() && self.edges.as_slice().is_empty()
     }
 }

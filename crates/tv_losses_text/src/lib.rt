@@ -4,5 +4,6 @@
 mod claims;
 mod lines;
 mod report;
+mod writer;
 
 pub use report::{LossReport, explain_losses};

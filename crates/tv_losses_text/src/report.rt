@@ -1,20 +1,19 @@
 //! What an analysis may owe its silence to, as a text.
 
-ghost use Rattle.std.specs.Prelude.{All, IfOk, IfErr};
+ghost use Rattle.std.specs.Prelude.{IfOk, IfErr};
 ghost use Rattle.tv_model.specs.Program.{program_of};
-ghost use Rattle.tv_model.specs.Valid.{IsValid};
-ghost use Rattle.tv_structure_form.specs.StructureForm.{IsOver};
-ghost use Rattle.tv_work.specs.Analyzed.{IsWorkCause};
-ghost use Rattle.tv_work.specs.Reach.{IsReached};
+ghost use Rattle.tv_losses.specs.Losses.{IsLossCause};
+ghost use Rattle.tv_losses.specs.Tasks.{CanBeAsked};
 ghost use Rattle.tv_losses_text.specs.Reports.{IsLossReport};
 
 use crate::claims::first_claims;
 use crate::lines::losses_text;
+use crate::writer::Writer;
 use std::alloc::Global;
-use tv_losses::losses;
+use tv_claim_text::ClaimNames;
+use tv_losses::{Asked, losses};
 use tv_losses_unmet::Declared;
-use tv_model::{Bytes, Mode, Program};
-use tv_struct::Structures;
+use tv_model::Bytes;
 use tv_work::WorkError;
 
 /// The text of losses, and whether there are any.
@@ -24,35 +23,29 @@ pub struct LossReport {
     pub is_any: bool,
 }
 
-/// What the analysis of the program from these initial structures may owe its silence to, each loss in one
-/// line, and whether there is any; of an initial structure without an opening the first declaration that it
-/// contradicts alone, if there is one. The heads are those of the program's edges. Errors are those of the
-/// analysis: `Structures` only where over `max` structures are reached, `Splits` and `Individuals` only where
-/// the step of a reached structure meets that budget.
-pub fn explain_losses(
-    alloc: Global,
-    program: &Program,
-    heads: &[Bytes],
-    initial: &Structures,
-    mode: Mode,
-    max: u64,
-) -> Result<LossReport, WorkError>
-    requires valid { IsValid (program_of program.now) }
-    requires initial { All (IsOver program.now.vocab) initial.now }
-    ensures report { IfOk result
-        (IsLossReport (program_of program.now) heads.now mode initial.now max) }
-    ensures cause { IfErr result (IsWorkCause (program_of program.now) max
-        (IsReached (program_of program.now) mode initial.now)) }
+/// What an analysis may owe its silence to, each loss in one line, and whether there is any; behind these the
+/// nodes that aren't reached. Of an initial structure without an opening the first declaration is told that it
+/// contradicts alone, if there is one. The heads are those of the program's edges. `Splits` and `Individuals` only
+/// where the step of a reached structure, or of one that a round of the joined analysis lists, meets that budget;
+/// `Structures` only where such a round lists over `max`.
+pub fn explain_losses(alloc: Global, x: &Asked, heads: &[Bytes]) -> Result<LossReport, WorkError>
+    requires { CanBeAsked x.now }
+    ensures report { IfOk result (IsLossReport x.now.program.now heads.now x.now.mode x.now.all x.now.joined
+        x.now.initial.now x.now.max) }
+    ensures cause { IfErr result (IsLossCause (program_of x.now.program.now) x.now.mode x.now.initial.now
+        x.now.max x.now.joined) }
 {
-    let found = losses(alloc, program, initial, mode, max)?;
-    let mut declared = Declared::new(alloc, program)?;
-    let claims = first_claims(
+    let found = losses(alloc, x)?;
+    let mut declared = Declared::new(alloc, x.program)?;
+    let initial = x.initial.as_slice();
+    let claims = first_claims(alloc, &mut declared, initial, found.initial.as_slice())?;
+    let names = ClaimNames::new(alloc, x.program)?;
+    let w = Writer {
         alloc,
-        &mut declared,
-        initial.as_slice(),
-        found.initial.as_slice(),
-    )?;
-    let text = losses_text(alloc, program, heads, claims.as_slice(), &found)?;
+        names: &names,
+        heads,
+    };
+    let text = losses_text(&w, claims.as_slice(), x.max, &found)?;
     Ok(LossReport {
         text,
         is_any: !found.are_none(),

@@ -21,7 +21,7 @@ const ASKED_OF_BOTH: Row<'static, 'static, 'static, 'static> = Row {
 };
 
 /// `b` is false at `L0` and true at `L1`, but for the second structure.
-pub static CHAINS: [Row<'static, 'static, 'static, 'static>; 19] = [
+pub static CHAINS: [Row<'static, 'static, 'static, 'static>; 23] = [
     Row {
         words: &["message", "p", "i", "3", "0"],
         out: "initial 0
@@ -121,6 +121,69 @@ edge 0  p:1  L Look ( ) L  message 0 is 1: \"seen\"
 at hand  (x)
 ",
         ..PLAIN
+    },
+    // what an update makes unknown
+    Row {
+        words: &["message", "p", "i", "1", "0", "--unknown"],
+        files: &[
+            (
+                "p",
+                "%p b() %p c() %% %action Blend() { { b() = c() } } %action Say() { %message b() -> \"on\" } %%
+L Blend() M
+M Say() N",
+            ),
+            ("i", "%n = {} %p = { c = 1/2 }"),
+        ],
+        out: "initial 0  c?
+edge 0  p:2  L Blend ( ) M  b?  c?
+  unknown b +1 by update
+edge 1  p:3  M Say ( ) N  message 0 is 1/2: \"on\"
+at hand  b?  c?
+",
+        ..PLAIN
+    },
+    // and what blur does: nothing tells the two individuals apart any more
+    Row {
+        words: &["structure", "p", "--unknown", "i", "M", "0"],
+        files: &[
+            (
+                "p",
+                "%p x(v) nonabs %p y(v) %% %action Clear() { { y(v) = 0 } } %%
+L Clear() M",
+            ),
+            ("i", "%n = {u, w} %p = { x = {u} y = {u} }"),
+        ],
+        out: "initial 0  (#0)  (x&y)
+edge 0  p:2  L Clear ( ) M  ((#0&x?))
+  unknown x +1 by blur
+",
+        ..PLAIN
+    },
+    // what coerce makes known again isn't told
+    Row {
+        words: &["structure", "p", "i", "M", "0", "--unknown"],
+        files: &[
+            (
+                "p",
+                "%p b() %p c() %p d() %r d() ==> b() %% %action Blend() { { b() = c() } } %%
+L Blend() M",
+            ),
+            ("i", "%n = {} %p = { b = 1 c = 1/2 d = 1 }"),
+        ],
+        out: "initial 0  b  c?  d
+edge 0  p:2  L Blend ( ) M  b  c?  d
+",
+        ..PLAIN
+    },
+    // nothing became unknown
+    Row {
+        words: &["message", "--unknown", "p", "i", "3", "0"],
+        out: "initial 0
+edge 0  p:11  L0 Go ( ) L1  b
+edge 3  p:14  L1 Say ( ) L2  message 0 is 1: \"still on\"
+at hand  b
+",
+        ..ASKED
     },
     // options stand anywhere
     Row {

@@ -23,15 +23,9 @@ const FREE_OF_BOTH: [(&str, &str); 2] = [
     ),
 ];
 
-/// No structure is left behind the action: whether that is a loss depends on its precondition.
+/// No structure is left behind the action: where its precondition is 1/2 that is no loss.
 const GUARDED: &str = "%p x(v) unique %p b() %r b() ==> 0 %%
 %action set() { %p E(v) x(v) { b() = 1 } } %% L1 set() L2";
-
-const FOCUSED: &str = "%p x(v) unique %p b() %r b() ==> 0 %%
-%action set() { %f { x(v) } %p E(v) x(v) { b() = 1 } } %% L1 set() L2";
-
-const PICKED: &str = "%p x(v) unique %p b() %r b() ==> 0 %%
-%action set() { %p x(v) & !x(w) { b() = 1 } } %% L1 set() L2";
 
 /// Rules against each of two predicates.
 const EXCLUDED: &str = "%p x(v) unique %p b() %p c() %r c() ==> 0 %r b() ==> 0 %%
@@ -52,7 +46,7 @@ const LOST: Row<'static, 'static, 'static, 'static> = Row {
     ..PLAIN
 };
 
-pub static LOSSES: [Row<'static, 'static, 'static, 'static>; 21] = [
+pub static LOSSES: [Row<'static, 'static, 'static, 'static>; 19] = [
     Row {
         files: &[("p", DEFINED), ("i", "%n = {a} %p = { x = {a} some = 1 }")],
         ..NOTHING
@@ -61,8 +55,8 @@ pub static LOSSES: [Row<'static, 'static, 'static, 'static>; 21] = [
     Row {
         files: &[("p", DEFINED), ("i", "%n = {a} %p = { x = {a} }")],
         out: "initial 0 has no opening, by the declaration of some
-node L1 lists nothing
-node L2 lists nothing
+node L1 isn't reached
+node L2 isn't reached
 ",
         ..LOST
     },
@@ -87,7 +81,7 @@ initial 2 has no opening, by the declaration of some
         ],
         out: "initial 0 has no opening, by rule 2
 initial 1 has no opening, by rule 1
-node L lists nothing
+node L isn't reached
 ",
         ..LOST
     },
@@ -95,7 +89,7 @@ node L lists nothing
     Row {
         files: &[("p", NEITHER), ("i", "%n = {} %p = { b = 1/2 }")],
         out: "initial 0 has no opening, by declarations together
-node L lists nothing
+node L isn't reached
 ",
         ..LOST
     },
@@ -105,13 +99,25 @@ node L lists nothing
             ("p", CYCLE),
             ("i", "%n = {a, b} %p = { x = {a} } %n = {a} %p = { }"),
         ],
-        out: "edge 0 loses 1 of 2 structures, first 1  p:2  L1 x_n_is_x ( ) L2\n",
+        out: "edge 0 loses 1 of 2 cases, first structure 1, by rule 2  p:2  L1 x_n_is_x ( ) L2\n",
         ..LOST
     },
     Row {
         files: &[("p", CYCLE), ("i", "%n = {a} %p = { x = {a} }")],
-        out: "node L2 lists nothing
-edge 0 loses 1 of 1 structures, first 0  p:2  L1 x_n_is_x ( ) L2
+        out: "edge 0 loses 1 of 1 cases, first structure 0, by rule 2  p:2  L1 x_n_is_x ( ) L2
+node L2 isn't reached
+",
+        ..LOST
+    },
+    // the cell behind itself is what the rule drops
+    Row {
+        words: &["losses", "p", "--cases", "i"],
+        files: &[("p", CYCLE), ("i", "%n = {a} %p = { x = {a} }")],
+        out: "edge 0 loses 1 of 1 cases, first structure 0, by rule 2  p:2  L1 x_n_is_x ( ) L2
+case of structure 0, by rule 2
+case   at hand  (x)
+case   given 0  (x)-n->(x)
+node L2 isn't reached
 ",
         ..LOST
     },
@@ -122,8 +128,8 @@ edge 0 loses 1 of 1 structures, first 0  p:2  L1 x_n_is_x ( ) L2
     // `r` stays true of the second cell, which nothing reaches any more
     Row {
         files: &FREE_OF_BOTH,
-        out: "node L2 lists nothing
-edge 0 loses 1 of 1 structures, first 0  p:2  L1 free ( ) L2
+        out: "edge 0 loses 1 of 1 cases, first structure 0, by the update of r  p:2  L1 free ( ) L2
+node L2 isn't reached
 ",
         ..LOST
     },
@@ -148,74 +154,48 @@ edge 0 loses 1 of 1 structures, first 0  p:2  L1 free ( ) L2
         ],
         ..NOTHING
     },
-    // the precondition is 1/2
     Row {
         files: &[("p", GUARDED), ("i", "%n = {a} %p = { x = {a:1/2} }")],
-        out: "node L2 lists nothing\n",
-        ..LOST
-    },
-    // it is 1
-    Row {
-        files: &[
-            ("p", GUARDED),
-            (
-                "i",
-                "%n = {a} %p = { x = {a} } %n = {a, b} %p = { x = {a} }",
-            ),
-        ],
-        out: "node L2 lists nothing
-edge 0 loses 2 of 2 structures, first 0  p:2  L1 set ( ) L2
-",
-        ..LOST
-    },
-    // it is 1/2, and 1 behind focus
-    Row {
-        files: &[("p", FOCUSED), ("i", "%n = {a} %p = { x = {a:1/2} }")],
-        out: "node L2 lists nothing
-edge 0 loses 1 of 1 structures, first 0  p:2  L1 set ( ) L2
-",
-        ..LOST
-    },
-    // it is 1 where the two cells are picked, each in its place
-    Row {
-        files: &[("p", PICKED), ("i", "%n = {a, b} %p = { x = {a} }")],
-        out: "node L2 lists nothing
-edge 0 loses 1 of 1 structures, first 0  p:2  L1 set ( ) L2
-",
-        ..LOST
-    },
-    // and nowhere
-    Row {
-        files: &[
-            ("p", PICKED),
-            ("i", "%n = {a, b} %p = { x = {a:1/2, b:1/2} }"),
-        ],
-        out: "node L2 lists nothing\n",
-        ..LOST
-    },
-    Row {
-        files: &[("p", PICKED), ("i", "%n = {a, b} %p = { }")],
-        out: "node L2 lists nothing\n",
-        ..LOST
+        out: "nothing is lost\nnode L2 isn't reached\n",
+        ..NOTHING
     },
     // no initial structure at all
     Row {
         files: &[("p", DEFINED), ("i", "")],
-        out: "node L1 lists nothing\nnode L2 lists nothing\n",
-        ..LOST
+        out: "nothing is lost\nnode L1 isn't reached\nnode L2 isn't reached\n",
+        ..NOTHING
     },
     // a loss that can't be written is told as a write fault
     Row {
-        files: &[("p", GUARDED), ("i", "%n = {a} %p = { x = {a:1/2} }")],
+        files: &FREE_OF_BOTH,
         out_fail: &[2],
         code: 6,
-        out: "node L2 li",
+        out: "edge 0 los",
         err: "tvla-explain: write fault\n",
         ..LOST
     },
     Row {
         words: &["losses", "p", "i", "--recompute", "--max-structures", "1"],
         files: &FREE_OF_BOTH,
+        out: "more than 1 structures; of those listed until then:\nnothing is lost\n",
+        ..PLAIN
+    },
+    // of the joined analysis
+    Row {
+        words: &["losses", "--join", "p", "i", "--cases", "--max-structures", "2"],
+        files: &[("p", CYCLE), ("i", "%n = {a} %p = { x = {a} }")],
+        out: "edge 0 loses 1 of 1 cases, first structure 0, by rule 2  p:2  L1 x_n_is_x ( ) L2
+case of structure 0, by rule 2
+case   at hand  (x)
+case   given 0  (x)-n->(x)
+node L2 isn't reached
+",
+        ..LOST
+    },
+    Row {
+        words: &["losses", "--join", "p", "i", "--recompute", "--max-structures", "1"],
+        files: &FREE_OF_BOTH,
+        out: "",
         code: 4,
         err: "tvla-explain: more than 1 structures\n",
         ..PLAIN

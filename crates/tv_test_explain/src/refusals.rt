@@ -34,6 +34,7 @@ step p i 0;%p b() %% %action Go() { } %% L0 Go() L1;%n = {} %p = { c = 1 };initi
 complete p i;%p b() %% %action Go() { } %% L0 Go() L1;%n = {} %p = { c = 1 };initial: NameUnknown
 compiled p;vars {x};;source: Syntax at 1:9
 compiled p;vars {x} fields {n} x = y;;source: NameUnknown
+compiled --updates p;vars {x} fields {n} x = y;;source: NameUnknown
 compiled p;vars {x} fields {n} x = ~;;source: BadByte";
 
 /// Words of which one names a file `q`, which isn't there.
@@ -45,6 +46,7 @@ message p q 9 0
 losses q i
 losses p q
 compiled q
+compiled q --updates
 step q i 9
 step p q 9
 plan q

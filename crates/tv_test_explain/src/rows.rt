@@ -10,7 +10,7 @@ use crate::views::VIEWS;
 use crate::witnesses::WITNESSES;
 use std::test::Fail;
 
-static ROWS: [Row<'static, 'static, 'static, 'static>; 6] = [
+static ROWS: [Row<'static, 'static, 'static, 'static>; 7] = [
     Row {
         words: &[],
         code: 2,
@@ -51,6 +51,34 @@ static ROWS: [Row<'static, 'static, 'static, 'static>; 6] = [
         out: "edge 0  sub/go:2  L0 Go ( ) L1
 edge 1  main:5  L1 Go ( ) L0
 edge 2  main:6  L0 Go ( ) L1
+",
+        ..PLAIN
+    },
+    Row {
+        words: &["edges", "p"],
+        files: &[
+            (
+                "p",
+                "%p b() %p x(v) unique
+%r b() ==> 0
+%s S {y, z}
+foreach (w in S) { %p q[w](v)
+  %r q[w](v) ==> b()
+}
+#include \"more\"
+%%
+%action Go() { }
+%%
+L0 Go() L0",
+            ),
+            ("more", "\n/* %r */\n%r x(v) ==> b() // %r\n"),
+        ],
+        out: "edge 0  p:11  L0 Go ( ) L0
+rule 0  the declaration of x
+rule 1  p:2
+rule 2  p:5
+rule 3  p:5
+rule 4  more:3
 ",
         ..PLAIN
     },

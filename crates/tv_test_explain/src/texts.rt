@@ -53,12 +53,12 @@ node L2 structures 1
 
 /// What a call with wrong words is told.
 pub const USAGE: &str = "usage: \
-tvla-explain message PROGRAM INITIAL EDGE NUMBER [--max-structures N] [--recompute | --delta]
-       tvla-explain structure PROGRAM INITIAL NODE INDEX [--max-structures N] [--recompute | --delta]
-       tvla-explain losses PROGRAM INITIAL [--max-structures N] [--recompute | --delta]
+tvla-explain message PROGRAM INITIAL EDGE NUMBER [--unknown] [--max-structures N] [--recompute | --delta]
+       tvla-explain structure PROGRAM INITIAL NODE INDEX [--unknown] [--max-structures N] [--recompute | --delta]
+       tvla-explain losses PROGRAM INITIAL [--cases] [--join] [--max-structures N] [--recompute | --delta]
        tvla-explain show PROGRAM REPORT
        tvla-explain edges PROGRAM
-       tvla-explain compiled SOURCE
+       tvla-explain compiled SOURCE [--updates]
        tvla-explain step PROGRAM STRUCTURES EDGE [--recompute | --delta]
        tvla-explain plan PROGRAM [--recompute | --delta]
        tvla-explain counts PROGRAM INITIAL [--max-structures N] [--recompute | --delta]

@@ -27,6 +27,10 @@ structure p i L0 first
 losses p
 losses p i 0
 losses p i --maps
+losses p i --cases --cases
+losses p i --join --cases --join
+counts p i --join
+counts p i --cases
 losses p i --delta --recompute
 losses p i --max-structures=0
 compile s
@@ -34,6 +38,12 @@ compiled
 compiled s s
 compiled s --delta
 compiled s --max-structures=5
+compiled --updates
+compiled s --updates --updates
+compiled s --updates=1
+compiled -- --updates
+edges p --updates
+plan p --updates
 step p i
 step p i 0 0
 step p i L0
@@ -48,6 +58,11 @@ counts p i --max-structures=0
 complete p
 complete p i i
 complete p i --delta
+message --unknown --unknown p i 3 0
+losses --unknown p i
+counts --unknown p i
+step --unknown p i 0
+edges --unknown p
 counts p i --cells 1
 message p i 0 0 --max-states 1
 witness p i 0
@@ -63,7 +78,9 @@ witness p i 0 0 --max-states 4294967296
 witness p i 0 0 --start-only --start-only
 witness p i 0 0 --start-only --trace-only
 message p i 0 0 --start-only
-losses p i --trace-only";
+losses p i --trace-only
+witness p i 0 0 --unknown
+witness p i 0 0 --join";
 
 /// Words that name what isn't there, and what is told of them.
 const ABSENT: &str = "message p i 4 0;no such edge

@@ -7,3 +7,5 @@ mod compiled;
 mod limits;
 #[cfg(test)]
 mod texts;
+#[cfg(test)]
+mod updated;

@@ -6,6 +6,7 @@ use tv_front::read_program;
 use tv_lex::lex;
 use tv_model::Program;
 use tv_plang::{SourceError, compile};
+use tv_updates::compile_with_updates;
 
 /// What a text of the pointer language is compiled to, or why it isn't.
 pub fn compiled(alloc: Global, text: &str) -> Result<Result<Program, SourceError>, Fail> {
@@ -16,6 +17,18 @@ pub fn compiled(alloc: Global, text: &str) -> Result<Result<Program, SourceError
     match lex(alloc, bytes) {
         Err(_) => Err(Fail::new("no tokens")),
         Ok(tokens) => Ok(compile(alloc, bytes, &tokens)),
+    }
+}
+
+/// What it is compiled to with updates, or why it isn't.
+pub fn updated(alloc: Global, text: &str) -> Result<Result<Program, SourceError>, Fail> {
+    let bytes = text.as_bytes();
+    if bytes.len() > 4_194_304 {
+        return Err(Fail::new("too long"));
+    }
+    match lex(alloc, bytes) {
+        Err(_) => Err(Fail::new("no tokens")),
+        Ok(tokens) => Ok(compile_with_updates(alloc, bytes, &tokens)),
     }
 }
 

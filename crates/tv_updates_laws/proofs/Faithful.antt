@@ -8,7 +8,7 @@ use Rattle.std.proofs.lemmas.List.{length-map}
 use Rattle.std.proofs.lemmas.List.Elements.{All-nil, All-cons, All-head, All-tail}
 use Rattle.std.proofs.lemmas.List.FromFn.{get_or-range_with_len, length-range_with_len}
 use Rattle.tv_model.specs.Heap.{Heap, Holds, IsTuple}
-use Rattle.tv_model.specs.Rules.{IsHeap, IsConcrete, MeetsProgram, MeetsRule, blank, unique_rule}
+use Rattle.tv_model.specs.Rules.{IsHeap, IsConcrete, MeetsProgram, MeetsRule, blank, function_rule, unique_rule}
 use Rattle.tv_model.specs.Step.{IsMiddle, with_new}
 use Rattle.tv_model.specs.Truth.{Assignment, IsWalk, put}
 use Rattle.tv_model.proofs.Lists.{Contains-cases, Contains-none, pushed-old}
@@ -17,7 +17,7 @@ use Rattle.tv_source.specs.Forms.{SourceForm}
 use Rattle.tv_source.specs.Valid.{IsVariableOf, IsFieldOf}
 use Rattle.tv_plang_laws.specs.Compiled.{compiled, compiled_preds, field_number, field_pred}
 use Rattle.tv_plang_laws.specs.Compiled.{reach_pred, reach_preds, variable_pred}
-use Rattle.tv_plang_laws.proofs.Predicates.{at-behind, at-front, mapped-at, variable-found}
+use Rattle.tv_plang_laws.proofs.Predicates.{at-behind, at-front, field-found, mapped-at, variable-found}
 use Rattle.tv_updates_laws.specs.Updated.{reach_number}
 use Rattle.tv_updates_laws.proofs.Paths.{Reach, along, from-star, path-keeps, to-star}
 
@@ -82,10 +82,12 @@ Leads p h f u w = Holds h (field_number p f) (u ∷ w ∷ [])
 abbrev pub Reached : SourceForm → Heap → (f x v : ℕ) → Type 0
 Reached p h f x v = Holds h (reach_number p f x) (v ∷ [])
 
--- r[f,x] holds of what x reaches along f; a variable has one cell at most; and all are individuals
+-- r[f,x] holds of what x reaches along f; a variable has one cell at most, and a field of a cell leads to one
+-- at most; and all are individuals
 pub record IsFaithful (p : SourceForm) (h : Heap) : Type 0 where
   pub reached : (f x v : ℕ) → IsFieldOf p f → IsVariableOf p x → Reached p h f x v ↔ Reach (Has h x) (Leads p h f) v
   pub one : (x u w : ℕ) → IsVariableOf p x → Has h x u → Has h x w → u ≡ w
+  pub leads_one : (f u w v : ℕ) → IsFieldOf p f → Leads p h f u w → Leads p h f u v → w ≡ v
   pub has_individual : (x u : ℕ) → Has h x u → Contains h.individuals u
   pub leads_between : (f u w : ℕ) → Leads p h f u w → Contains h.individuals u × Contains h.individuals w
 
@@ -103,6 +105,14 @@ two-tuple h u w at at_w = (
 -- an edge of the definition's closure
 abbrev Edge : SourceForm → Heap → (f u w : ℕ) → Type 0
 Edge p h f u w = Contains h.individuals u × Contains h.individuals w × Leads p h f u w
+
+-- what is so of both elements is so of each
+pair-in : (In : ℕ → Type 0) (v w i : ℕ) → In v → In w → Contains (v ∷ w ∷ []) i → In i
+pair-in In v w i in_v in_w at =
+    ⊎_elim
+    (λ e. subst In e in_v)
+    (λ more. ⊎_elim (λ e. subst In e in_w) (λ none. absurd (Contains-none i none)) (Contains-cases w i [] more))
+    (Contains-cases v i (w ∷ []) at)
 
 module _ (p : SourceForm) (h : Heap) (is : IsHeap (compiled p) h) where
   pub holds-first : (q u : ℕ) (us : List ℕ) → Holds h q (u ∷ us) → Contains h.individuals u
@@ -167,10 +177,31 @@ module _ (p : SourceForm) (h : Heap) (is : IsHeap (compiled p) h) where
       free)
       (has, has_too)
 
+  is-function : MeetsProgram (compiled p) h → (f u w v : ℕ) → IsFieldOf p f → Leads p h f u w → Leads p h f u v
+      → w ≡ v
+  is-function meets f u w v declared leads_w leads_v =
+      let q : ℕ = field_number p f
+      in let a : Assignment = put (put (put blank 0 u) 1 w) 2 v
+      in let In : ℕ → Type 0 = λ i. Contains h.individuals (a i)
+      in let zeroth : In 0 = holds-first q u (w ∷ []) leads_w
+      in let first : In 1 = holds-second q u w leads_w
+      in let second : In 2 = holds-second q u v leads_v
+      in let found = field-found p f declared
+      in All-head (MeetsRule h) (function_rule q) [] (meets.properties q (field_pred found.0) found.1) a
+      (λ i free. ⊎_elim
+      (λ body. ⊎_elim
+      (λ at. pair-in In 0 1 i zeroth first at)
+      (λ at. pair-in In 0 2 i zeroth second at)
+      body)
+      (λ head. ⊎_elim (λ e. subst In (sym e) first) (λ e. subst In (sym e) second) head)
+      free)
+      (leads_w, leads_v)
+
   pub faithful : IsConcrete (compiled p) h → MeetsProgram (compiled p) h → IsFaithful p h
   faithful concrete meets = record {
     reached = is-reached concrete;
     one = is-one meets;
+    leads_one = is-function meets;
     has_individual = λ x u has. holds-first x u [] has;
     leads_between = λ f u w e. (holds-first (field_number p f) u (w ∷ []) e, holds-second (field_number p f) u w e);
   }
@@ -179,6 +210,7 @@ with-new : (p : SourceForm) (h : Heap) (c : ℕ) → IsFaithful p h → IsFaithf
 with-new p h c is = record {
   reached = is.reached;
   one = is.one;
+  leads_one = is.leads_one;
   has_individual = λ x u has. pushed-old h.individuals c u (is.has_individual x u has);
   leads_between = λ f u w e. (
     pushed-old h.individuals c u (is.leads_between f u w e).0,

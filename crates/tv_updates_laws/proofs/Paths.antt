@@ -50,6 +50,30 @@ pub path-keeps : (E : ℕ → ℕ → Type 0) (P : ℕ → Type 0) → ((u w : �
 path-keeps E P ends zero u v p t = subst P t p
 path-keeps E P ends (suc n) u v p t = path-keeps E P ends n t.0 v (ends u t.0 t.1) t.2
 
+-- ---- cycles
+
+-- an edge leaves v, and from its end a path leads to c
+abbrev pub LeadsBack : (ℕ → ℕ → Type 0) → (c v : ℕ) → Type 0
+LeadsBack E c v = (w : ℕ) × E v w × PathTo E w c
+
+pub round-trip : (E : ℕ → ℕ → Type 0) (c w : ℕ) → PathTo E c w → E w c → LeadsBack E c c
+round-trip E c w (zero, same) e =
+    let From : ℕ → Type 0 = λ x. E x c in (c, subst From (sym same) e, no-edges E c)
+round-trip E c w (suc n, t) e = (t.0, t.1, join E t.0 w c (n, t.2) (edge-before E w c c e (no-edges E c)))
+
+-- where edges are functions, paths from a cycle don't end
+module _ (E : ℕ → ℕ → Type 0) (one : (u w v : ℕ) → E u w → E u v → w ≡ v) (c : ℕ) (round : LeadsBack E c c) where
+  goes-round : (w : ℕ) → PathTo E w c → LeadsBack E c w
+  goes-round w (zero, e) = subst (LeadsBack E c) (sym e) round
+  goes-round w (suc n, t) = (t.0, t.1, (n, t.2))
+
+  pub no-end : (n u v : ℕ) → LeadsBack E c u → Path E n u v → LeadsBack E c v
+  no-end zero u v back e = subst (LeadsBack E c) e back
+  no-end (suc n) u v back t =
+      let To : ℕ → Type 0 = λ x. PathTo E x c
+      in let same : back.0 ≡ t.0 = one u back.0 t.0 back.1 t.1
+      in no-end n t.0 v (goes-round t.0 (subst To same back.2)) t.2
+
 -- ---- walks
 
 walk-path : (E : ℕ → ℕ → Type 0) (stops : List ℕ) (u v : ℕ) → IsWalk E u stops v → PathTo E u v

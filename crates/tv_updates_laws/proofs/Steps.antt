@@ -12,19 +12,19 @@ use Rattle.tv_model.specs.Step.{AgreesWithGiven, AllowsChange, FairStep, Follows
 use Rattle.tv_model.specs.Step.{StepsThrough, update_for}
 use Rattle.tv_model.specs.Run.{IsStart}
 use Rattle.tv_model.specs.Truth.{Assignment}
-use Rattle.tv_model.proofs.Lists.{All-from_contains, Contains-flat_map_back, Contains-map_back}
+use Rattle.tv_model.proofs.Lists.{All-from_contains, Contains-cases, Contains-flat_map_back, Contains-none}
 use Rattle.tv_source.specs.Forms.{AssignForm, SourceForm}
 use Rattle.tv_source.specs.Valid.{IsFieldOf, IsSource, IsVariableOf}
 use Rattle.tv_plang_laws.specs.Compiled.{compiled, compiled_preds, numbers_below, reach_pred}
 use Rattle.tv_plang_laws.specs.Positions.{last}
 use Rattle.tv_plang_laws.proofs.Predicates.{PredAt, of_variable, of_field, of_reach, pred-at, range-below}
-use Rattle.tv_updates_laws.specs.Updated.{all_assigned, field_rules, reach_number, reach_rule, reach_rules}
-use Rattle.tv_updates_laws.specs.Updated.{reach_updates, updated_program, with_reaches}
+use Rattle.tv_updates_laws.specs.Updated.{all_assigned, end_rule, field_rules, reach_number, reach_rule, reach_rules}
+use Rattle.tv_updates_laws.specs.Updated.{reach_updates, updated_program, variable_rules, with_reaches}
 use Rattle.tv_updates_laws.proofs.Faithful.{IsFaithful, Leads, faithful, reach-found}
 use Rattle.tv_updates_laws.proofs.Pairings.{HasPair, IsOfReach, IsPaired, block-paired, found-among}
 use Rattle.tv_updates_laws.proofs.Pairings.{found-front}
 use Rattle.tv_updates_laws.proofs.Pairings.{own-below, pair-at, reach-update}
-use Rattle.tv_updates_laws.proofs.Paths.{PathTo, edge-before, join, no-edges}
+use Rattle.tv_updates_laws.proofs.Paths.{LeadsBack, PathTo, edge-before, join, no-edges, no-end, round-trip}
 use Rattle.tv_updates_laws.proofs.Statements.{exact}
 
 -- ---- predicates
@@ -86,17 +86,44 @@ rule-met p h is f x f_declared x_declared a individuals t =
     = edge-before (Leads p h f) (a 0) (a 1) (a 1) t.1 (no-edges (Leads p h f) (a 1))
     in (is.reached f x (a 1) f_declared x_declared).1 (r.0, r.1, join (Leads p h f) r.0 (a 0) (a 1) r.2 onwards)
 
+-- a walk that ends leads back to nothing
+end-met : (p : SourceForm) (h : Heap) → IsFaithful p h → (f x : ℕ) → IsFieldOf p f → IsVariableOf p x
+    → MeetsRule h (end_rule p f x)
+end-met p h is f x f_declared x_declared a individuals t = λ edge.
+    let E : ℕ → ℕ → Type 0 = Leads p h f
+    in let c : ℕ = a 3
+    in let to_end = (is.reached f x (a 0) f_declared x_declared).0 t.0.0.0
+    in let to_last = (is.reached f x (a 2) f_declared x_declared).0 t.0.1
+    in let ToEnd : ℕ → Type 0 = λ u. PathTo E u (a 0)
+    in let ToLast : ℕ → Type 0 = λ u. PathTo E u (a 2)
+    in let from_end : PathTo E c (a 0) = subst ToEnd (is.one x to_end.0 c x_declared to_end.1 t.1) to_end.2
+    in let from_last : PathTo E c (a 2) = subst ToLast (is.one x to_last.0 c x_declared to_last.1 t.1) to_last.2
+    in let round : LeadsBack E c c = round-trip E c (a 2) from_last edge
+    in let one : (u w v : ℕ) → E u w → E u v → w ≡ v = λ u w v. is.leads_one f u w v f_declared
+    in let goes_on : LeadsBack E c (a 0) = no-end E one c round from_end.0 c (a 0) round from_end.1
+    in t.0.0.1 (goes_on.0, (is.leads_between f (a 0) goes_on.0 goes_on.1).1, goes_on.1)
+
 rules-met : (p : SourceForm) (h : Heap) → IsFaithful p h → All (MeetsRule h) (reach_rules p)
 rules-met p h is = All-from_contains (MeetsRule h) (reach_rules p) (λ rule at. met rule at)
   where
+    of_pair : (f x : ℕ) (rule : RuleForm) → IsFieldOf p f → IsVariableOf p x → Contains (variable_rules p f x) rule
+        → MeetsRule h rule
+    of_pair f x rule f_declared x_declared at = ⊎_elim
+        (λ e. subst (MeetsRule h) e (rule-met p h is f x f_declared x_declared))
+        (λ more. ⊎_elim
+        (λ e. subst (MeetsRule h) e (end-met p h is f x f_declared x_declared))
+        (λ none. absurd (Contains-none rule none))
+        (Contains-cases (end_rule p f x) rule [] more))
+        (Contains-cases (reach_rule p f x) rule (end_rule p f x ∷ []) at)
+
     met : (rule : RuleForm) → Contains (reach_rules p) rule → MeetsRule h rule
     met rule at =
         let of_f = Contains-flat_map_back (field_rules p) (numbers_below (length p.fields)) rule at
-        in let of_x = Contains-map_back (reach_rule p of_f.0) (numbers_below (length p.variables)) rule of_f.2
-        in let same : reach_rule p of_f.0 of_x.0 ≡ rule = cc of_x.2
-        in subst (MeetsRule h) same
-        (rule-met p h is of_f.0 of_x.0 (omega (arith, range-below 0 (length p.fields) of_f.0 of_f.1))
-        (omega (arith, range-below 0 (length p.variables) of_x.0 of_x.1)))
+        in let of_x = Contains-flat_map_back (variable_rules p of_f.0) (numbers_below (length p.variables)) rule of_f.2
+        in of_pair of_f.0 of_x.0 rule
+        (omega (arith, range-below 0 (length p.fields) of_f.0 of_f.1))
+        (omega (arith, range-below 0 (length p.variables) of_x.0 of_x.1))
+        of_x.2
 
 meets-there : (p : SourceForm) (h : Heap) → IsFaithful p h → MeetsProgram (compiled p) h
     → MeetsProgram (updated_program p) h

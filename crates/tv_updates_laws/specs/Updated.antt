@@ -1,13 +1,13 @@
 -- The compiled program with updates of what variables reach, and with rules that say of each that it goes on
--- along edges: nothing else differs.
+-- along edges, and that a walk that ends leads back to nothing: nothing else differs.
 use Rattle.std.specs.Prelude.{ℕ, ◌+◌, ◌*◌, ◌==◌, ◌&&◌, List, [], ◌∷◌, ◌++◌, length, Option, Some, None}
-use Rattle.std.specs.Prelude.{if◌then◌else◌, true, map}
+use Rattle.std.specs.Prelude.{if◌then◌else◌, true, false}
 use Rattle.std.specs.List.{flat_map}
 use Rattle.tv_model.specs.Form.{Form, FZero, FAtom, FIsNew, FSame, FNot, FAnd, FOr, FExists, FClosure}
 use Rattle.tv_model.specs.Program.{CTo, HAtom, RuleForm, UpdateForm, ActionForm, ProgramForm}
 use Rattle.tv_source.specs.Forms.{AssignForm, ANull, ANew, ACopy, ALoad, AStore, AClear, Stmt, SAssign, SIf}
 use Rattle.tv_source.specs.Forms.{SWhile, Stmts, no_stmts, with_stmt, SourceForm}
-use Rattle.tv_plang_laws.specs.Compiled.{compiled, leads, numbers_below, points}
+use Rattle.tv_plang_laws.specs.Compiled.{compiled, field_number, leads, numbers_below, points}
 
 -- ---- formulas
 
@@ -79,8 +79,19 @@ reach_rule p f x = record {
   head = HAtom true (reach_number p f x) (1 ∷ []);
 }
 
+-- Where x reaches a cell that leads nowhere, no cell that it reaches leads to its own.
+-- r[f,x](v) & !(E(v_1) f(v, v_1)) & r[f,x](v_2) & x(v_3) ==> !f(v_2, v_3)
+abbrev pub end_rule : SourceForm → (f x : ℕ) → RuleForm
+end_rule p f x = record {
+  body = FAnd (FAnd (FAnd (reaches p f x 0) (FNot (FExists 1 (leads p f 0 1)))) (reaches p f x 2)) (points x 3);
+  head = HAtom false (field_number p f) (2 ∷ 3 ∷ []);
+}
+
+abbrev pub variable_rules : SourceForm → (f x : ℕ) → List RuleForm
+variable_rules p f x = reach_rule p f x ∷ end_rule p f x ∷ []
+
 abbrev pub field_rules : SourceForm → (f : ℕ) → List RuleForm
-field_rules p f = map (reach_rule p f) (numbers_below (length p.variables))
+field_rules p f = flat_map (variable_rules p f) (numbers_below (length p.variables))
 
 abbrev pub reach_rules : SourceForm → List RuleForm
 reach_rules p = flat_map (field_rules p) (numbers_below (length p.fields))

@@ -31,7 +31,7 @@ pub returns-clause-exact : goal.returns-clause-exact
 returns-clause-exact g c =
     let each = c.one_meaning_each.ensures in
     ends_duly c.one_command.ensures c.one_reading.ensures each.program each.source each.initial each.report
-    _ _ _ _ _ _ _ _ _ _ _ (returns-clause-done g c)
+    c.one_meaning.ensures _ _ _ _ _ _ _ _ _ _ _ (returns-clause-done g c)
 
 pub returns-clause-complete : goal.returns-clause-complete
 returns-clause-complete g c = λ no_read no_out no_err.

@@ -10,7 +10,7 @@ use Rattle.tv_explain.proofs.work.compiled.Goals as goal
 pub returns-in_err-read-clause-cause : goal.returns-in_err-read-clause-cause
 returns-in_err-read-clause-cause g c =
     let p = err_from_is_err_and c.from_residual.result c.from_residual.ensures.1 in
-    rw (p.1, p.2) (source_fault _ c.args.source.now _ _ _ c.in_err-read.ensures.cause)
+    rw (p.1, p.2) (source_fault _ c.args.source.now c.args.updates _ _ _ c.in_err-read.ensures.cause)
 
 pub returns-in_err-read-clause-steady : goal.returns-in_err-read-clause-steady
 returns-in_err-read-clause-steady g c =
@@ -29,14 +29,16 @@ pub returns-in_err-compiled_text-clause-cause : goal.returns-in_err-compiled_tex
 returns-in_err-compiled_text-clause-cause g c =
     let p = err_from_is_err_and c.from_residual-in_err-compiled_text.result
     c.from_residual-in_err-compiled_text.ensures.1 in
-    rw (p.1, p.2) (writing_fault _ c.args.source.now c.in_ok-read.read _ _ c.in_err-compiled_text.field-0.0
-    c.in_ok-read.ensures.means (rw c.deref.ensures.value at c.in_err-compiled_text.ensures.fault))
+    rw (p.1, p.2) (writing_fault _ c.args.source.now c.args.updates c.in_ok-taken.taken _ _
+    c.in_err-compiled_text.field-0.0
+    (c.in_ok-taken.ensures.taken _ c.args.source.now c.in_ok-read.ensures.means)
+    (rw c.deref.ensures.value at c.in_err-compiled_text.ensures.fault))
 
 pub returns-clause-found : goal.returns-clause-found
 returns-clause-found g c = (
-  c.in_ok-read.read,
-  c.in_ok-read.ensures.means,
-  written_text c.compiled_texts_are_programs.ensures c.in_ok-read.read c.in_ok-compiled_text.field-0.items
+  c.in_ok-taken.taken,
+  c.in_ok-taken.ensures.taken _ c.args.source.now c.in_ok-read.ensures.means,
+  written_text c.compiled_texts_are_programs.ensures c.in_ok-taken.taken c.in_ok-compiled_text.field-0.items
       (rw c.deref.ensures.value at c.in_ok-compiled_text.ensures.text) c.in_ok-compiled_text.ensures.means
       c.in_ok-compiled_text.ensures.size,
 )
@@ -51,3 +53,7 @@ returns-in_err-compiled_text-clause-most g c =
 
 pub returns-clause-most : goal.returns-clause-most
 returns-clause-most g c = begins_at_most _ (λ held. 1) _ _ (once_begun _ _ _ c.in_ok-read.ensures.begins)
+
+pub returns-in_err-taken-clause-most : goal.returns-in_err-taken-clause-most
+returns-in_err-taken-clause-most g c =
+    begins_at_most _ (λ held. 1) _ _ (once_begun _ _ _ c.in_ok-read.ensures.begins)

@@ -29,15 +29,15 @@ returns-in_err-drawn-clause-steady g c =
 
 pub returns-clause-found : goal.returns-clause-found
 returns-clause-found g c =
-    (c.in_ok-drawn.drawn, c.in_ok-drawn.ensures.means, rw (sym c.deref.ensures.value) c.in_ok-edges_text.ensures)
+    (c.in_ok-drawn.drawn, c.in_ok-drawn.ensures.means, c.in_ok-listed_lines.ensures)
 
 pub returns-in_err-drawn-clause-most : goal.returns-in_err-drawn-clause-most
 returns-in_err-drawn-clause-most g c =
     let fault : Result Drawn TextFault = Err c.in_err-drawn.field-0.0 in
     begun_at_most fault _ (λ held. program_begins held c.args.program.now) _ _ c.in_err-drawn.ensures.begins
 
-pub returns-in_err-edges_text-clause-most : goal.returns-in_err-edges_text-clause-most
-returns-in_err-edges_text-clause-most g c =
+pub returns-in_err-listed_lines-clause-most : goal.returns-in_err-listed_lines-clause-most
+returns-in_err-listed_lines-clause-most g c =
     begins_at_most _ (λ held. program_begins held c.args.program.now) _ _ c.in_ok-drawn.ensures.begins
 
 pub returns-clause-most : goal.returns-clause-most

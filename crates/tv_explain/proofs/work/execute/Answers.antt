@@ -20,7 +20,7 @@ pub returns-in-Compiled-clause-found : goal.returns-in-Compiled-clause-found
 returns-in-Compiled-clause-found g c =
     let told = g.F.Files.holds c.args.files.now in
     rw (c.in-Compiled.is, c.plain-in-Compiled.ensures) (plain_text _ c.compiled.result (subst
-    (λ name. IfOk c.compiled.result (λ text. IsText told (Compiles name) text.items))
+    (λ name. IfOk c.compiled.result (λ text. IsText told (Compiles name c.in-Compiled.updates) text.items))
     c.deref-in-Compiled.ensures c.compiled.ensures.found))
 
 pub returns-in-Plan-clause-found : goal.returns-in-Plan-clause-found

@@ -8,12 +8,14 @@ use Rattle.tv_explain_words.proofs.asked.asked_command.Goals as goal
 
 pub returns : goal.returns
 returns c =
-    let line_one : App = with_rule (line_app (codes "tvla") asked_flags []) (setting_rule (codes "max-structures")) in
-    let one : app_of c.in_ok-arg.field-0 ≡ line_one =
+    let none : App = line_app (codes "tvla") asked_flags [] in
+    let one : App = with_rule none (setting_rule (codes "max-structures")) in
+    let two : App = with_rule one (setting_rule (codes "cells")) in
+    let is_one : app_of c.in_ok-arg.field-0 ≡ one =
     c.in_ok-arg.ensures.shape c.setting-max.ensures.local
-    ∙ ap₂ with_rule c.in_ok-flagged_command.ensures c.setting-max.ensures.rule in
-    let line_two : App = with_rule line_one (setting_rule (codes "cells")) in
-    let two : app_of c.in_ok-arg-2.field-0 ≡ line_two =
-    c.in_ok-arg-2.ensures.shape c.setting-cells.ensures.local ∙ ap₂ with_rule one c.setting-cells.ensures.rule in
+    ∙ ap₂ with_rule c.in_ok-options_command.ensures c.setting-max.ensures.rule in
+    let is_two : app_of c.in_ok-arg-2.field-0 ≡ two =
+    c.in_ok-arg-2.ensures.shape c.setting-cells.ensures.local
+    ∙ ap₂ with_rule is_one c.setting-cells.ensures.rule in
     IfOk-weaker c.arg-3.result _ _ (λ l added. added.shape c.setting-states.ensures.local
-    ∙ ap₂ with_rule two c.setting-states.ensures.rule) c.arg-3.ensures
+    ∙ ap₂ with_rule is_two c.setting-states.ensures.rule) c.arg-3.ensures

@@ -7,21 +7,21 @@ use Rattle.tv_explain_words.proofs.asked.flagged_command.Goals as goal
 
 pub returns : goal.returns
 returns c =
-    let open_line : App = with_rule (bare_app (codes "tvla")) operand_rule in
-    let one : app_of c.in_ok-arg.field-0 ≡ open_line =
+    let one : App = with_rule (bare_app (codes "tvla")) operand_rule in
+    let two : App = with_rule one (flag_rule (codes "recompute")) in
+    let three : App = with_rule two (flag_rule (codes "delta")) in
+    let four : App = with_rule three (flag_rule (codes "maps")) in
+    let is_one : app_of c.in_ok-arg.field-0 ≡ one =
     c.in_ok-arg.ensures.shape c.operands.ensures.local
     ∙ ap₂ with_rule c.bare_line.ensures c.operands.ensures.rule in
-    let line_two : App = with_rule open_line (flag_rule (codes "recompute")) in
-    let two : app_of c.in_ok-arg-2.field-0 ≡ line_two =
-    c.in_ok-arg-2.ensures.shape c.flag-recompute.ensures.local ∙ ap₂ with_rule one c.flag-recompute.ensures.rule in
-    let line_three : App = with_rule line_two (flag_rule (codes "delta")) in
-    let three : app_of c.in_ok-arg-3.field-0 ≡ line_three =
-    c.in_ok-arg-3.ensures.shape c.flag-delta.ensures.local ∙ ap₂ with_rule two c.flag-delta.ensures.rule in
-    let line_four : App = with_rule line_three (flag_rule (codes "maps")) in
-    let four : app_of c.in_ok-arg-4.field-0 ≡ line_four =
-    c.in_ok-arg-4.ensures.shape c.flag-maps.ensures.local ∙ ap₂ with_rule three c.flag-maps.ensures.rule in
-    let line_five : App = with_rule line_four (flag_rule (codes "start-only")) in
-    let five : app_of c.in_ok-arg-5.field-0 ≡ line_five =
-    c.in_ok-arg-5.ensures.shape c.flag-start_only.ensures.local ∙ ap₂ with_rule four c.flag-start_only.ensures.rule in
-    IfOk-weaker c.arg-6.result _ _ (λ l added. added.shape c.flag-trace_only.ensures.local
-    ∙ ap₂ with_rule five c.flag-trace_only.ensures.rule) c.arg-6.ensures
+    let is_two : app_of c.in_ok-arg-2.field-0 ≡ two =
+    c.in_ok-arg-2.ensures.shape c.flag-recompute.ensures.local
+    ∙ ap₂ with_rule is_one c.flag-recompute.ensures.rule in
+    let is_three : app_of c.in_ok-arg-3.field-0 ≡ three =
+    c.in_ok-arg-3.ensures.shape c.flag-delta.ensures.local
+    ∙ ap₂ with_rule is_two c.flag-delta.ensures.rule in
+    let is_four : app_of c.in_ok-arg-4.field-0 ≡ four =
+    c.in_ok-arg-4.ensures.shape c.flag-maps.ensures.local
+    ∙ ap₂ with_rule is_three c.flag-maps.ensures.rule in
+    IfOk-weaker c.arg-5.result _ _ (λ l added. added.shape c.flag-unknown.ensures.local
+    ∙ ap₂ with_rule is_four c.flag-unknown.ensures.rule) c.arg-5.ensures

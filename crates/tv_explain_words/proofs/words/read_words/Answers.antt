@@ -2,7 +2,7 @@ use Rattle.std.proofs.Common.{◌≡◌, ◌∙◌, ◌∷◌, codes, ap, refl, 
 use Rattle.std.specs.Prelude.{IfNone, IfOk, IfSome}
 use Rattle.tv_words.specs.Setup.{HasLine, Reads}
 use Rattle.tv_words.specs.Words.{words_of}
-use Rattle.tv_explain_words.specs.Words.{AskedForm, IsAskedBy, NoneAskedBy, asked_flags, asked_settings, form_of}
+use Rattle.tv_explain_words.specs.Words.{AskedForm, IsSaid, NoneSaid, asked_flags, asked_settings, form_of}
 use Rattle.tv_explain_words.proofs.Commands.{none_without_line, spelled, unspelled}
 use Rattle.tv_explain_words.proofs.words.read_words.Goals as goal
 
@@ -22,9 +22,9 @@ returns-clause-some c =
     let reads = c.in_ok-matches.ensures (codes "tvla") asked_flags asked_settings refl c.in_ok-asked_command.ensures in
     let line : HasLine asked_flags asked_settings behind c.in-Some-2.matches =
     subst (Reads asked_flags asked_settings behind) c.in-Some-2.is reads in
-    spelled name (words_of c.args.words.now) behind whole c.in-Some-2.matches line c.said_by.result
-    (subst (λ (l : AskedForm). IfOk c.said_by.result (λ found. IfSome found (λ command. IsAskedBy name l (form_of command))))
-    c.told_asked.ensures c.said_by.ensures.some)
+    spelled name (words_of c.args.words.now) behind whole c.in-Some-2.matches line c.said.result
+    (subst (λ (l : AskedForm). IfOk c.said.result (λ found. IfSome found (λ command. IsSaid name l (form_of command))))
+    c.told_asked.ensures c.said.ensures.some)
 
 pub returns-clause-none : goal.returns-clause-none
 returns-clause-none c =
@@ -35,5 +35,5 @@ returns-clause-none c =
     let reads = c.in_ok-matches.ensures (codes "tvla") asked_flags asked_settings refl c.in_ok-asked_command.ensures in
     let line : HasLine asked_flags asked_settings behind c.in-Some-2.matches =
     subst (Reads asked_flags asked_settings behind) c.in-Some-2.is reads in
-    unspelled name (words_of c.args.words.now) behind whole c.in-Some-2.matches line c.said_by.result
-    (subst (λ (l : AskedForm). IfOk c.said_by.result (λ found. IfNone found (NoneAskedBy name l))) c.told_asked.ensures c.said_by.ensures.none)
+    unspelled name (words_of c.args.words.now) behind whole c.in-Some-2.matches line c.said.result
+    (subst (λ (l : AskedForm). IfOk c.said.result (λ found. IfNone found (NoneSaid name l))) c.told_asked.ensures c.said.ensures.none)

@@ -1,7 +1,7 @@
 use Rattle.std.proofs.Common.{arith}
 use Rattle.std.specs.Prelude.{◌==◌}
 use Rattle.tv_losses.specs.Losses.{ListsNothing}
-use Rattle.tv_losses.proofs.Exactly.{none-below, below-all, below-next}
+use Rattle.tv_edge_order.proofs.Exactly.{none-below, below-all, below-next}
 use Rattle.tv_losses.proofs.Losing.{lists-nothing-is, nothing-within}
 use Rattle.tv_losses.proofs.apart.empty_nodes.Goals as goal
 

@@ -4,4 +4,5 @@ use Rattle.tv_losses_text.proofs.lines.append_edges.Given as goal
 
 abbrev pub invariant-loop-loss : goal.invariant-loop-loss
 invariant-loop-loss l =
-    l.out.items ++ edge_losses l.heads (drop l.loss-index l.losses) ≡ l.fn.out.items ++ edge_losses l.heads l.losses
+    l.out.items ++ edge_losses l.w.names.now l.w.heads.now (drop l.loss-index l.losses)
+    ≡ l.fn.out.items ++ edge_losses l.w.names.now l.w.heads.now l.losses

@@ -10,6 +10,6 @@ returns c =
     closed c.extend_from_slice-2.result c.args.out.now.items c.append_numbered.new.out.items
     c.extend_from_slice.new.self.items c.append.new.out.items c.extend_from_slice-2.new.self.items
     (numbered (codes "initial ") c.args.number) (codes " has no opening, by ")
-    (claim_written (program_of c.args.of.now) c.args.claim) (codes "\n")
+    (claim_written (program_of c.args.w.now.names.now) c.args.claim) (codes "\n")
     c.in_ok-append_numbered.ensures c.in_ok-extend_from_slice.ensures.items c.in_ok-append.ensures
     c.extend_from_slice-2.ensures.items

@@ -1,0 +1,2 @@
+mod LegLaws
+mod Preds

@@ -1,6 +1,0 @@
-use Rattle.std.proofs.Common.{◌≡◌, ◌+◌, drop}
-use Rattle.tv_compiled.specs.Notes.{test_len}
-use Rattle.tv_compiled.proofs.notes.test_len.Given as goal
-
-abbrev pub invariant-loop-i : goal.invariant-loop-i
-invariant-loop-i l = l.i + test_len l.bytes (drop l.i l.tokens) ≡ test_len l.bytes l.tokens

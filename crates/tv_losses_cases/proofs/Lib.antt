@@ -1,0 +1,5 @@
+mod Blaming
+pub mod Counting
+mod Dropping
+mod Owning
+mod Trying

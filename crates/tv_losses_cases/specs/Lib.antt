@@ -1,0 +1,4 @@
+pub mod Cases
+pub mod Blames
+pub mod Tallies
+pub mod Trying

@@ -1,0 +1,5 @@
+pub mod Noted
+mod Named
+mod Steps
+mod Fronts
+mod Walk

@@ -1,0 +1,3 @@
+pub mod RuleLines
+pub mod RuleTexts
+pub mod Laws

@@ -1,0 +1,5 @@
+mod Further
+mod Declared
+mod Numbers
+mod Ranges
+mod Stages

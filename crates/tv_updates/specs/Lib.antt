@@ -1,0 +1,2 @@
+pub mod Assigns
+pub mod Meaning
