@@ -1,11 +1,11 @@
 -- The steps of a trail, one after the other.
-use Rattle.std.proofs.Common.{ℕ, zero, suc, ◌≡◌, ◌<◌, ◌∙◌, ◌+◌, List, [], ◌∷◌, ◌++◌, Some, None, Option}
+use Rattle.std.proofs.Common.{ℕ, zero, suc, ◌≡◌, ◌<◌, ◌≤◌, ◌∙◌, ◌+◌, ◌-◌, List, [], ◌∷◌, ◌++◌, Some, None, Option}
 use Rattle.std.proofs.Common.{add-one, ap, append-nil, append_assoc, arith, length, refl, subst, sym, take}
 use Rattle.std.proofs.Math.Seq.{take-length}
-use Rattle.std.specs.List.{AllZip}
+use Rattle.std.specs.List.{AllZip, slice_index_or}
 use Rattle.std.specs.Prelude.{All, Any, Contains, option_map, slice_get}
 use Rattle.std.proofs.lemmas.List.Elements.{All-cons, All-contains, All-head, All-nil, All-tail}
-use Rattle.std.proofs.lemmas.Option.{same_Some, slice_get_within}
+use Rattle.std.proofs.lemmas.Option.{same_Some, slice_get-get_or, slice_get_within}
 use Rattle.tv_lemmas.proofs.Zips.{zip_push}
 use Rattle.tv_model.specs.Program.{ProgramForm, program_of}
 use Rattle.tv_model.specs.declared.program.Program.{Program}
@@ -44,6 +44,24 @@ leg-next s (l ∷ ls) zero b link at next =
     ∙ ap (λ (x : Link). Some (leg_at x.structure link)) (same_Some l b at)
 leg-next s (l ∷ ls) (suc n) b link at next = leg-next l.structure ls n b link at next
 
+pub leg-behind : (s : StructureForm) (links ls : List Link) (number : ℕ) (d link : Link) → ls ≡ links → 1 ≤ number
+    → number < length links → slice_get links number ≡ Some link
+    → slice_get (legs_from s links) number ≡ Some (leg_at (slice_index_or ls (number - 1) d).structure link)
+leg-behind s links ls zero d link is some within at = absurd (omega (arith, some))
+leg-behind s links ls (suc n) d link is some within at =
+    let same : n ≡ suc n - 1 = omega arith in
+    subst (λ ks. slice_get (legs_from s links) (suc n) ≡ Some (leg_at (slice_index_or ks (suc n - 1) d).structure link))
+    (sym is)
+    (subst (λ k. slice_get (legs_from s links) (suc n) ≡ Some (leg_at (slice_index_or links k d).structure link)) same
+    (leg-next s links n (slice_index_or links n d) link
+    (slice_get-get_or links n d (omega (arith, within))) at))
+
+-- the link at a place
+pub link-there : (links ls : List Link) (i : ℕ) (d : Link) → ls ≡ links → i < length ls
+    → slice_get links i ≡ Some (slice_index_or ls i d)
+link-there links ls i d is within =
+    subst (λ ks. slice_get ks i ≡ Some (slice_index_or ls i d)) is (slice_get-get_or ls i d within)
+
 pub length-legs : (s : StructureForm) (links : List Link) → length (legs_from s links) ≡ length links
 length-legs s [] = refl
 length-legs s (l ∷ ls) = ap suc (length-legs l.structure ls)
@@ -68,7 +86,7 @@ legs_more R p heads (x ∷ xs) (y ∷ ys) zip leg step =
 
 -- taking one more of a list
 take-more : {X : Type 0} (xs : List X) (i : ℕ) (x : X) → slice_get xs i ≡ Some x → take (i + 1) xs ≡ take i xs ++ x ∷ []
-take-more xs i x at = rw add-one (by xs i at)
+take-more {X = X} xs i x at = rw add-one (by xs i at)
   where
     by : (ys : List X) (k : ℕ) → slice_get ys k ≡ Some x → take (suc k) ys ≡ take k ys ++ x ∷ []
     by [] k e = cc
@@ -76,7 +94,7 @@ take-more xs i x at = rw add-one (by xs i at)
     by (y ∷ ys) (suc k) e = ap (λ zs. y ∷ zs) (by ys k e)
 
 module _ (engine : EngineForm) (heads : List (List ℕ)) (legs : List Leg) where
-  One : Leg → SlowStep → Type 0
+  abbrev One : Leg → SlowStep → Type 0
   One = IsLegStep (program_of engine.program) engine.mode
 
   pub goes_on : (i : ℕ) (leg : Leg) (step : SlowStep) (old mid new : List ℕ) → slice_get legs i ≡ Some leg
@@ -110,6 +128,34 @@ leg-stops p legs i leg Memory at cause = tt
 pub leg-such : (P : Leg → Type 0) (legs : List Leg) (i : ℕ) (leg : Leg) → All P legs
     → slice_get legs i ≡ Some leg → P leg
 leg-such P legs i leg all at = All-contains P legs leg all (slice_get-contains legs i leg at)
+
+-- ---- the leg whose turn it is
+
+module _ (opening : StructureForm) (links ls : List Link) (is : ls ≡ links) (i : ℕ) (before : StructureForm) (d : Link)
+    (at : (link : Link) → slice_get links i ≡ Some link
+    → slice_get (legs_from opening links) i ≡ Some (leg_at before link))
+    (within : i < length ls) where
+  abbrev its_leg : Leg
+  its_leg = leg_at before (slice_index_or ls i d)
+
+  its-place : slice_get (legs_from opening links) i ≡ Some its_leg
+  its-place = at (slice_index_or ls i d) (link-there links ls i d is within)
+
+  pub leg-told : (engine now : EngineForm) (program : Program) (heads : List (List ℕ)) (old mid new : List ℕ)
+      → now ≡ engine → program ≡ engine.program
+      → (step : SlowStep) × IsLegStep (program_of program) now.mode its_leg step
+      × (new ≡ mid ++ leg_lines program heads its_leg step)
+      → GoesOnWithLegs engine heads (take i (legs_from opening links)) old mid
+      → GoesOnWithLegs engine heads (take (i + 1) (legs_from opening links)) old new
+  leg-told engine now program heads old mid new same its (step, slow, grown) so_far =
+      goes_on engine heads (legs_from opening links) i its_leg step old mid new its-place
+      (subst (λ p. IsLegStep (program_of p) engine.mode its_leg step) its
+      (subst (λ (e : EngineForm). IsLegStep (program_of program) e.mode its_leg step) same slow))
+      (subst (λ p. new ≡ mid ++ leg_lines p heads its_leg step) its grown) so_far
+
+  pub leg-untold : (p : ProgramForm) (fault : StageError)
+      → IsStepCause p (slice_index_or ls i d).edge before fault → IsLegsCause p (legs_from opening links) fault
+  leg-untold p fault cause = leg-stops p (legs_from opening links) i its_leg fault its-place cause
 
 -- ---- the steps of a trail that an analysis has
 

@@ -193,8 +193,8 @@ listed_lines drawn = edges_text (program_of drawn.program) 0 drawn.heads.items
 
 -- The text is what the command gives, where that is a text alone: the structures of REPORT, a report on
 -- PROGRAM; the control edges of PROGRAM as its text has them, with the messages of their actions, and the
--- lines in which its rules are written; a shortest trail; the program that SOURCE is compiled to, with updates
--- or without; the steps of STRUCTURES; what the actions of PROGRAM do to defined predicates; how many
+-- lines in which its rules are written; a shortest trail; the program that SOURCE is compiled to, with
+-- updates or without; the steps of STRUCTURES; what the actions of PROGRAM do to defined predicates; how many
 -- structures are listed; or STRUCTURES with what it doesn't name.
 abbrev pub IsText : Option Held → CommandForm → (text : List ℕ) → Type 0
 IsText told (Shows program report) text = (p : Program) × IsProgramFile told program (Ok p)

@@ -1,5 +1,6 @@
 -- Which ending the words of a call and what its files hold call for.
-use Rattle.std.specs.Prelude.{ℕ, ◌≡◌, ◌⊎◌, ◌<◌, ◌≤◌, Bool, true, false, List, Option, Some, IsSome, Ok, Contains}
+use Rattle.std.specs.Prelude.{ℕ, ◌≡◌, ◌⊎◌, ◌<◌, ◌≤◌, Bool, true, false, List, Option, Some, IsSome, Ok}
+use Rattle.std.specs.Prelude.{Contains}
 use Rattle.std.specs.Prelude.{All, length, slice_get}
 use Rattle.tv_join.specs.Rounds.{IsInRound}
 use Rattle.tv_lex.specs.Gather.{longest_gathered}
@@ -66,8 +67,8 @@ abbrev pub KeepsReached : AnalyzedForm → Inputs → Type 0
 KeepsReached of inputs =
     KeepAllBudgets (drawn_form inputs) (IsReached (drawn_form inputs) of.mode inputs.initial)
 
--- the analysis whose losses are told keeps its limits: the step of each structure that is reached, or that a round
--- of the joined one lists, keeps the budgets, and no round lists too many
+-- the analysis whose losses are told keeps its limits: the step of each structure that is reached, or that a
+-- round of the joined one lists, keeps the budgets, and no round lists too many
 abbrev pub KeepsListed : (joined : Bool) → ProgramForm → Mode → (initial : List StructureForm) → (max : ℕ)
     → Type 0
 KeepsListed false p mode initial max = KeepAllBudgets p (IsReached p mode initial)

@@ -17,15 +17,16 @@ use Rattle.tv_explain.specs.Answers.{IsText}
 use Rattle.tv_explain_words.specs.Words.{Compiles}
 
 -- the tokens mean a source program, whose runs are covered
-pub record AreCovered (ts : List SpecToken) (initial : List StructureForm) (listed : List (List StructureForm))
+pub record AreCovered (ts : List SpecToken) (initial : List StructureForm)
+    (listed : List (List StructureForm))
     (lines : List MessageLine) : Type 0 where
   pub source : SourceForm
   pub meant : MeansSource ts source
   pub covers : CoversSource source initial listed lines
 
 -- Where a text is what `compiled --updates` writes of a file, and a listing covers the runs of the program
--- that it means, in either mode, as each of `analyze` and `join` does and each that `check` accepts, it covers
--- those of the file's source program.
+-- that it means, in either mode, as each of `analyze` and `join` does and each that `check` accepts, it
+-- covers those of the file's source program.
 abbrev pub ReportsCoverSources : Type 0
 ReportsCoverSources = (held : Held) (name text : List ℕ) (p : Program) (mode : Mode)
     (initial : List StructureForm) (listed : List (List StructureForm)) (lines : List MessageLine)

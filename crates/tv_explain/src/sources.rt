@@ -12,8 +12,8 @@ use std::alloc::Global;
 use tv_texts::SourceText;
 use tv_updates::compile_with_updates;
 
-/// The source program with what it is compiled to; with `updates`, what it is compiled to with updates of what
-/// its variables reach.
+/// The source program with what it is compiled to; with `updates`, what it is compiled to with updates of
+/// what its variables reach.
 #[tactic(auto, using(crate::proofs::Sources::updated_text))]
 pub fn taken(alloc: Global, read: SourceText, updates: bool) -> Result<SourceText, Fault>
     requires { IsCompiled read }

@@ -244,7 +244,7 @@ module _ (name : List ℕ) (words rest : List (List ℕ)) (whole : words ≡ nam
         none command (
           same.0,
           same_said (asked_of h.parts h.behind) (told_asked m)
-              (turned (told_asked m) (asked_of h.parts h.behind) (told rest m h)) command
+              (asked_turned (told_asked m) (asked_of h.parts h.behind) (told rest m h)) command
               (subst (λ l. Says l command) line spells.2.says),
         )
     unspelled (Err e) none = none

@@ -17,7 +17,8 @@ ghost use Rattle.tv_texts.specs.Files.{IsReportFile, IsSourceFile, IsFileCause, 
 ghost use Rattle.tv_texts.specs.Files.{BeginsUpTo, program_begins};
 
 use crate::fault::{TextFault, fault_of_reading};
-use crate::texts::{initial_in, program_in, report_in, source_in, start_in, trace_in};
+use crate::source::{SourceText, load_source_text};
+use crate::texts::{initial_in, program_in, report_in, start_in, trace_in};
 use std::alloc::Global;
 use tv_lex::{MAX_TEXT, gather};
 use tv_listing::Analysis;
@@ -211,7 +212,7 @@ pub fn load_report<F: Files>(
 /// # Errors
 /// It is refused where it means no source program or one too large. It isn't read only where a call of
 /// `files` failed, and on steady files only where they lack it. Or memory ran out.
-#[tactic(auto, using(crate::proofs::Loading::too_long, crate::proofs::Loading::held_refused, crate::proofs::Loading::holds_such, crate::proofs::Loading::holds_anyway))]
+#[tactic(auto, using(crate::proofs::Sources::source_file))]
 pub fn load_source<F: Files>(alloc: Global, files: &mut F, name: &str) -> Result<Program, TextFault>
     ensures means { IfOk result (λ p. IsSourceFile (F.holds files.old) name.now (Ok p)) }
     ensures valid { IfOk result (λ p. IsValid (program_of p)) }
@@ -225,6 +226,6 @@ pub fn load_source<F: Files>(alloc: Global, files: &mut F, name: &str) -> Result
     ensures steady { F.steady files.old → UnlessNotRead result (F.steady files.new
         × (F.faults files.new ≡ F.faults files.old)) }
 {
-    let bytes = read_file(alloc, files, name, Role::Source, MAX_TEXT)?;
-    source_in(alloc, &bytes)
+    let SourceText { program, .. } = load_source_text(alloc, files, name)?;
+    Ok(program)
 }

@@ -16,10 +16,10 @@ use tv_model::{Formula, Var};
 use tv_source::{Assign, FieldId, VarId};
 
 /// What another variable reaches along the same field.
-fn of(r: Reach<'_>, variable: VarId) -> Reach<'_>
-    requires { IsVariableOf (source_of r.source.now) variable.0 }
-    ensures source { result.source.now ≡ r.source.now }
-    ensures field { result.field.0 ≡ r.field.0 }
+fn of<'a>(r: &Reach<'a>, variable: VarId) -> Reach<'a>
+    requires { IsVariableOf (source_of r.now.source.now) variable.0 }
+    ensures source { result.source.now ≡ r.now.source.now }
+    ensures field { result.field.0 ≡ r.now.field.0 }
     ensures variable { result.variable.0 ≡ variable.0 }
 {
     Reach {
@@ -30,8 +30,9 @@ fn of(r: Reach<'_>, variable: VarId) -> Reach<'_>
 }
 
 /// What is behind the variable along the field.
-fn behind(alloc: Global, r: Reach<'_>) -> Result<Formula, AllocError>
-    ensures { IfOk result (λ g. form_of g ≡ reached_behind (source_of r.source.now) r.field.0 r.variable.0) }
+fn behind(alloc: Global, r: &Reach<'_>) -> Result<Formula, AllocError>
+    ensures { IfOk result
+        (λ g. form_of g ≡ reached_behind (source_of r.now.source.now) r.now.field.0 r.now.variable.0) }
 {
     let edge = both(alloc, reaching(r, 1), leading(r, 1, 0))?;
     let led_back = some(alloc, 1, edge)?;
@@ -40,9 +41,10 @@ fn behind(alloc: Global, r: Reach<'_>) -> Result<Formula, AllocError>
 }
 
 /// `TC (v_1, v) (v_2, v_3) !x(v_2) & f(v_2, v_3)`
-fn closure_around(alloc: Global, r: Reach<'_>, x: VarId) -> Result<Formula, AllocError>
+fn closure_around(alloc: Global, r: &Reach<'_>, x: VarId) -> Result<Formula, AllocError>
     ensures { IfOk result (λ g. form_of g
-        ≡ FClosure 1 0 2 3 (FAnd (FNot (points x.0 2)) (leads (source_of r.source.now) r.field.0 2 3))) }
+        ≡ FClosure 1 0 2 3
+        (FAnd (FNot (points x.0 2)) (leads (source_of r.now.source.now) r.now.field.0 2 3))) }
 {
     let elsewhere = negation(alloc, pointing(x, 2))?;
     let body = both(alloc, elsewhere, leading(r, 2, 3))?;
@@ -56,9 +58,9 @@ fn closure_around(alloc: Global, r: Reach<'_>, x: VarId) -> Result<Formula, Allo
 }
 
 /// What the variable reaches by walks that don't leave the cell of `x`.
-fn around(alloc: Global, r: Reach<'_>, x: VarId) -> Result<Formula, AllocError>
+fn around(alloc: Global, r: &Reach<'_>, x: VarId) -> Result<Formula, AllocError>
     ensures { IfOk result
-        (λ g. form_of g ≡ reached_around (source_of r.source.now) x.0 r.field.0 r.variable.0) }
+        (λ g. form_of g ≡ reached_around (source_of r.now.source.now) x.0 r.now.field.0 r.now.variable.0) }
 {
     let closure = closure_around(alloc, r, x)?;
     let walk = either(alloc, Formula::Same(Var(1), Var(0)), closure)?;
@@ -66,22 +68,23 @@ fn around(alloc: Global, r: Reach<'_>, x: VarId) -> Result<Formula, AllocError>
 }
 
 /// The variable reaches the cell of `x`.
-fn cell_reached(alloc: Global, r: Reach<'_>, x: VarId) -> Result<Formula, AllocError>
+fn cell_reached(alloc: Global, r: &Reach<'_>, x: VarId) -> Result<Formula, AllocError>
     ensures { IfOk result
-        (λ g. form_of g ≡ reaches_cell (source_of r.source.now) r.field.0 r.variable.0 x.0) }
+        (λ g. form_of g ≡ reaches_cell (source_of r.now.source.now) r.now.field.0 r.now.variable.0 x.0) }
 {
     some(alloc, 1, both(alloc, pointing(x, 1), reaching(r, 1))?)
 }
 
 /// The same by what is reached, for another variable than `x`.
-fn still_other(alloc: Global, r: Reach<'_>, x: VarId) -> Result<Formula, AllocError>
-    requires cell { IsVariableOf (source_of r.source.now) x.0 }
-    ensures { IfOk result (λ g. form_of g ≡ FAnd (reaches (source_of r.source.now) r.field.0 r.variable.0 0)
-        (FOr (FNot (reaches_cell (source_of r.source.now) r.field.0 r.variable.0 x.0))
-        (FOr (FNot (reaches (source_of r.source.now) r.field.0 x.0 0)) (FOr (points x.0 0)
-        (reached_around (source_of r.source.now) x.0 r.field.0 r.variable.0))))) }
+fn still_other(alloc: Global, r: &Reach<'_>, x: VarId) -> Result<Formula, AllocError>
+    requires cell { IsVariableOf (source_of r.now.source.now) x.0 }
+    ensures { IfOk result
+        (λ g. form_of g ≡ FAnd (reaches (source_of r.now.source.now) r.now.field.0 r.now.variable.0 0)
+        (FOr (FNot (reaches_cell (source_of r.now.source.now) r.now.field.0 r.now.variable.0 x.0))
+        (FOr (FNot (reaches (source_of r.now.source.now) r.now.field.0 x.0 0)) (FOr (points x.0 0)
+        (reached_around (source_of r.now.source.now) x.0 r.now.field.0 r.now.variable.0))))) }
 {
-    let apart = negation(alloc, reaching(of(r, x), 0))?;
+    let apart = negation(alloc, reaching(&of(r, x), 0))?;
     let led_around = either(alloc, pointing(x, 0), around(alloc, r, x)?)?;
     let missed = negation(alloc, cell_reached(alloc, r, x)?)?;
     let led = either(alloc, apart, led_around)?;
@@ -89,10 +92,10 @@ fn still_other(alloc: Global, r: Reach<'_>, x: VarId) -> Result<Formula, AllocEr
 }
 
 /// The same, for `x` itself too.
-fn still(alloc: Global, r: Reach<'_>, x: VarId) -> Result<Formula, AllocError>
-    requires cell { IsVariableOf (source_of r.source.now) x.0 }
+fn still(alloc: Global, r: &Reach<'_>, x: VarId) -> Result<Formula, AllocError>
+    requires cell { IsVariableOf (source_of r.now.source.now) x.0 }
     ensures { IfOk result
-        (λ g. form_of g ≡ still_reached (source_of r.source.now) x.0 r.field.0 r.variable.0) }
+        (λ g. form_of g ≡ still_reached (source_of r.now.source.now) x.0 r.now.field.0 r.now.variable.0) }
 {
     if r.variable.0 == x.0 {
         Ok(pointing(x, 0))
@@ -102,25 +105,25 @@ fn still(alloc: Global, r: Reach<'_>, x: VarId) -> Result<Formula, AllocError>
 }
 
 /// What the variable reaches behind `x->f = y`, along this field.
-fn stored(alloc: Global, r: Reach<'_>, x: VarId, y: VarId) -> Result<Formula, AllocError>
-    requires cell { IsVariableOf (source_of r.source.now) x.0 }
-    requires target { IsVariableOf (source_of r.source.now) y.0 }
+fn stored(alloc: Global, r: &Reach<'_>, x: VarId, y: VarId) -> Result<Formula, AllocError>
+    requires cell { IsVariableOf (source_of r.now.source.now) x.0 }
+    requires target { IsVariableOf (source_of r.now.source.now) y.0 }
     ensures { IfOk result (λ g. form_of g
-        ≡ FOr (still_reached (source_of r.source.now) x.0 r.field.0 r.variable.0)
-        (FAnd (reaches_cell (source_of r.source.now) r.field.0 r.variable.0 x.0)
-        (still_reached (source_of r.source.now) x.0 r.field.0 y.0))) }
+        ≡ FOr (still_reached (source_of r.now.source.now) x.0 r.now.field.0 r.now.variable.0)
+        (FAnd (reaches_cell (source_of r.now.source.now) r.now.field.0 r.now.variable.0 x.0)
+        (still_reached (source_of r.now.source.now) x.0 r.now.field.0 y.0))) }
 {
     let linked = both(
         alloc,
         cell_reached(alloc, r, x)?,
-        still(alloc, of(r, y), x)?,
+        still(alloc, &of(r, y), x)?,
     )?;
     either(alloc, still(alloc, r, x)?, linked)
 }
 
 /// Behind `x = null`.
-fn null_change(r: Reach<'_>, x: VarId) -> Option<Formula>
-    ensures { pre_of result ≡ (if r.variable.0 == x.0 then Some FZero else None) }
+fn null_change(r: &Reach<'_>, x: VarId) -> Option<Formula>
+    ensures { pre_of result ≡ (if r.now.variable.0 == x.0 then Some FZero else None) }
 {
     if r.variable.0 == x.0 {
         Some(Formula::Zero)
@@ -130,8 +133,9 @@ fn null_change(r: Reach<'_>, x: VarId) -> Option<Formula>
 }
 
 /// Behind `x = new`.
-fn new_change(r: Reach<'_>, x: VarId) -> Option<Formula>
-    ensures { pre_of result ≡ reach_change (source_of r.source.now) (ANew x.0) r.field.0 r.variable.0 }
+fn new_change(r: &Reach<'_>, x: VarId) -> Option<Formula>
+    ensures { pre_of result
+        ≡ reach_change (source_of r.now.source.now) (ANew x.0) r.now.field.0 r.now.variable.0 }
 {
     if r.variable.0 == x.0 {
         Some(Formula::IsNew(Var(0)))
@@ -141,12 +145,13 @@ fn new_change(r: Reach<'_>, x: VarId) -> Option<Formula>
 }
 
 /// Behind `x = y`.
-fn copy_change(r: Reach<'_>, x: VarId, y: VarId) -> Option<Formula>
-    requires target { IsVariableOf (source_of r.source.now) y.0 }
-    ensures { pre_of result ≡ reach_change (source_of r.source.now) (ACopy x.0 y.0) r.field.0 r.variable.0 }
+fn copy_change(r: &Reach<'_>, x: VarId, y: VarId) -> Option<Formula>
+    requires target { IsVariableOf (source_of r.now.source.now) y.0 }
+    ensures { pre_of result
+        ≡ reach_change (source_of r.now.source.now) (ACopy x.0 y.0) r.now.field.0 r.now.variable.0 }
 {
     if r.variable.0 == x.0 {
-        Some(reaching(of(r, y), 0))
+        Some(reaching(&of(r, y), 0))
     } else {
         None
     }
@@ -155,17 +160,17 @@ fn copy_change(r: Reach<'_>, x: VarId, y: VarId) -> Option<Formula>
 /// Behind `x = y->g`.
 fn load_change(
     alloc: Global,
-    r: Reach<'_>,
+    r: &Reach<'_>,
     x: VarId,
     y: VarId,
     g: FieldId,
 ) -> Result<Option<Formula>, AllocError>
-    requires target { IsVariableOf (source_of r.source.now) y.0 }
+    requires target { IsVariableOf (source_of r.now.source.now) y.0 }
     ensures { IfOk result (λ h. pre_of h
-        ≡ reach_change (source_of r.source.now) (ALoad x.0 y.0 g.0) r.field.0 r.variable.0) }
+        ≡ reach_change (source_of r.now.source.now) (ALoad x.0 y.0 g.0) r.now.field.0 r.now.variable.0) }
 {
     if r.variable.0 == x.0 && r.field.0 == g.0 {
-        Ok(Some(behind(alloc, of(r, y))?))
+        Ok(Some(behind(alloc, &of(r, y))?))
     } else {
         Ok(None)
     }
@@ -174,15 +179,15 @@ fn load_change(
 /// Behind `x->g = y`.
 fn store_change(
     alloc: Global,
-    r: Reach<'_>,
+    r: &Reach<'_>,
     x: VarId,
     g: FieldId,
     y: VarId,
 ) -> Result<Option<Formula>, AllocError>
-    requires cell { IsVariableOf (source_of r.source.now) x.0 }
-    requires target { IsVariableOf (source_of r.source.now) y.0 }
+    requires cell { IsVariableOf (source_of r.now.source.now) x.0 }
+    requires target { IsVariableOf (source_of r.now.source.now) y.0 }
     ensures { IfOk result (λ h. pre_of h
-        ≡ reach_change (source_of r.source.now) (AStore x.0 g.0 y.0) r.field.0 r.variable.0) }
+        ≡ reach_change (source_of r.now.source.now) (AStore x.0 g.0 y.0) r.now.field.0 r.now.variable.0) }
 {
     if r.field.0 == g.0 {
         Ok(Some(stored(alloc, r, x, y)?))
@@ -194,13 +199,13 @@ fn store_change(
 /// Behind `x->g = null`.
 fn clear_change(
     alloc: Global,
-    r: Reach<'_>,
+    r: &Reach<'_>,
     x: VarId,
     g: FieldId,
 ) -> Result<Option<Formula>, AllocError>
-    requires cell { IsVariableOf (source_of r.source.now) x.0 }
+    requires cell { IsVariableOf (source_of r.now.source.now) x.0 }
     ensures { IfOk result (λ h. pre_of h
-        ≡ reach_change (source_of r.source.now) (AClear x.0 g.0) r.field.0 r.variable.0) }
+        ≡ reach_change (source_of r.now.source.now) (AClear x.0 g.0) r.now.field.0 r.now.variable.0) }
 {
     if r.field.0 == g.0 {
         Ok(Some(still(alloc, r, x)?))
@@ -210,10 +215,14 @@ fn clear_change(
 }
 
 /// What the statement makes of what the variable reaches, where this is said.
-pub fn change_of(alloc: Global, r: Reach<'_>, assign: Assign) -> Result<Option<Formula>, AllocError>
-    requires declared { IsAssignOf (source_of r.source.now) (assign_of assign) }
+pub fn change_of(
+    alloc: Global,
+    r: &Reach<'_>,
+    assign: Assign,
+) -> Result<Option<Formula>, AllocError>
+    requires declared { IsAssignOf (source_of r.now.source.now) (assign_of assign) }
     ensures { IfOk result (λ g. pre_of g
-        ≡ reach_change (source_of r.source.now) (assign_of assign) r.field.0 r.variable.0) }
+        ≡ reach_change (source_of r.now.source.now) (assign_of assign) r.now.field.0 r.now.variable.0) }
 {
     match assign {
         Assign::Null(x) => Ok(null_change(r, x)),

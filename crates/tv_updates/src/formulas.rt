@@ -26,8 +26,8 @@ pub struct Reach<'a> {
 
 /// The number of the predicate.
 #[tactic(auto, using(crate::proofs::Numbers::reach_fits))]
-pub fn number_of(r: Reach<'_>) -> u32
-    ensures { result ≡ reach_number (source_of r.source.now) r.field.0 r.variable.0 }
+pub fn number_of(r: &Reach<'_>) -> u32
+    ensures { result ≡ reach_number (source_of r.now.source.now) r.now.field.0 r.now.variable.0 }
 {
     let variables = r.source.variables.len() as u32;
     let fields = r.source.fields.len() as u32;
@@ -35,22 +35,22 @@ pub fn number_of(r: Reach<'_>) -> u32
 }
 
 /// `r[f,x](v)`
-pub fn reaching(r: Reach<'_>, v: u8) -> Formula
-    ensures { form_of result ≡ reaches (source_of r.source.now) r.field.0 r.variable.0 v }
+pub fn reaching(r: &Reach<'_>, v: u8) -> Formula
+    ensures { form_of result ≡ reaches (source_of r.now.source.now) r.now.field.0 r.now.variable.0 v }
 {
     Formula::Atom(PredId(number_of(r)), Terms::One(Var(v)))
 }
 
 /// The predicate of the field.
-pub fn field_of(r: Reach<'_>) -> PredId
-    ensures { result.0 ≡ field_number (source_of r.source.now) r.field.0 }
+pub fn field_of(r: &Reach<'_>) -> PredId
+    ensures { result.0 ≡ field_number (source_of r.now.source.now) r.now.field.0 }
 {
     PredId(r.source.variables.len() as u32 + r.field.0)
 }
 
 /// `f(v, w)`, along the field.
-pub fn leading(r: Reach<'_>, v: u8, w: u8) -> Formula
-    ensures { form_of result ≡ leads (source_of r.source.now) r.field.0 v w }
+pub fn leading(r: &Reach<'_>, v: u8, w: u8) -> Formula
+    ensures { form_of result ≡ leads (source_of r.now.source.now) r.now.field.0 v w }
 {
     Formula::Atom(field_of(r), Terms::Two(Var(v), Var(w)))
 }

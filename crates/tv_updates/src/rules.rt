@@ -5,7 +5,8 @@ ghost use Rattle.tv_model.specs.Program.{rule_of};
 ghost use Rattle.tv_source.specs.Copies.{source_of};
 ghost use Rattle.tv_source.specs.Valid.{IsFieldOf};
 ghost use Rattle.tv_plang.specs.Limits.{HasFewNames};
-ghost use Rattle.tv_updates_laws.specs.Updated.{end_rule, field_rules, reach_rule, reach_rules, variable_rules};
+ghost use Rattle.tv_updates_laws.specs.Updated.{end_rule, field_rules, reach_rule, reach_rules};
+ghost use Rattle.tv_updates_laws.specs.Updated.{variable_rules};
 
 use crate::formulas::{
     Reach, both, field_of, leading, negation, number_of, pointing, reaching, some,
@@ -15,8 +16,9 @@ use tv_model::{Head, Items, PredId, Rule, Rules, Terms, Var};
 use tv_source::{FieldId, Source, VarId};
 
 /// `r[f,x](v) & f(v, v_1) ==> r[f,x](v_1)`
-fn rule(alloc: Global, r: Reach<'_>) -> Result<Rule, AllocError>
-    ensures { IfOk result (λ c. rule_of c ≡ reach_rule (source_of r.source.now) r.field.0 r.variable.0) }
+fn rule(alloc: Global, r: &Reach<'_>) -> Result<Rule, AllocError>
+    ensures { IfOk result
+        (λ c. rule_of c ≡ reach_rule (source_of r.now.source.now) r.now.field.0 r.now.variable.0) }
 {
     Ok(Rule {
         body: both(alloc, reaching(r, 0), leading(r, 0, 1))?,
@@ -25,8 +27,9 @@ fn rule(alloc: Global, r: Reach<'_>) -> Result<Rule, AllocError>
 }
 
 /// `r[f,x](v) & !(E(v_1) f(v, v_1)) & r[f,x](v_2) & x(v_3) ==> !f(v_2, v_3)`
-fn end_rule(alloc: Global, r: Reach<'_>) -> Result<Rule, AllocError>
-    ensures { IfOk result (λ c. rule_of c ≡ end_rule (source_of r.source.now) r.field.0 r.variable.0) }
+fn end_rule(alloc: Global, r: &Reach<'_>) -> Result<Rule, AllocError>
+    ensures { IfOk result
+        (λ c. rule_of c ≡ end_rule (source_of r.now.source.now) r.now.field.0 r.now.variable.0) }
 {
     let goes_on = some(alloc, 1, leading(r, 0, 1))?;
     let end = both(alloc, reaching(r, 0), negation(alloc, goes_on)?)?;
@@ -38,9 +41,9 @@ fn end_rule(alloc: Global, r: Reach<'_>) -> Result<Rule, AllocError>
 }
 
 /// Appends the rules of what the variable reaches.
-fn put_rules(alloc: Global, r: Reach<'_>, out: &mut Rules) -> Result<(), AllocError>
+fn put_rules(alloc: Global, r: &Reach<'_>, out: &mut Rules) -> Result<(), AllocError>
     ensures { OnOk result (map rule_of out.new
-        ≡ map rule_of out.old ++ variable_rules (source_of r.source.now) r.field.0 r.variable.0) }
+        ≡ map rule_of out.old ++ variable_rules (source_of r.now.source.now) r.now.field.0 r.now.variable.0) }
 {
     out.push(rule(alloc, r)?)?;
     out.push(end_rule(alloc, r)?)
@@ -59,7 +62,7 @@ fn put_field(alloc: Global, source: &Source, f: u32, out: &mut Rules) -> Result<
             field: FieldId(f),
             variable: VarId(x),
         };
-        put_rules(alloc, r, out)?;
+        put_rules(alloc, &r, out)?;
     }
     Ok(())
 }

@@ -43,11 +43,12 @@ fn with_updates(alloc: Global, source: &Source, program: Program) -> Result<Prog
     })
 }
 
-/// The program that a text of the pointer language is compiled to, with updates. `tokens` are those of `bytes`.
+/// The program that a text of the pointer language is compiled to, with updates. `tokens` are those of
+/// `bytes`.
 ///
-/// Each statement updates what variables reach where it decides it, and rules say that what is reached goes on
-/// along edges. The program has the runs of the one that `tv_plang::compile` gives: the updates agree with the
-/// definitions of `r[f,x]` on every step, and each heap of a run meets the rules.
+/// Each statement updates what variables reach where it decides it, and rules say that what is reached goes
+/// on along edges. The program has the runs of the one that `tv_plang::compile` gives: the updates agree with
+/// the definitions of `r[f,x]` on every step, and each heap of a run meets the rules.
 ///
 /// # Errors
 /// Those of `tv_plang::compile`, in the same cases; `Memory` where memory ran out.

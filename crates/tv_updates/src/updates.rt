@@ -14,9 +14,9 @@ use tv_model::{Change, Formula, PredId, Terms, Update, Updates, Var};
 use tv_source::{Assign, FieldId, Source, VarId};
 
 /// Appends the update by the formula, where there is one.
-fn put_change(r: Reach<'_>, change: Option<Formula>, out: &mut Updates) -> Result<(), AllocError>
+fn put_change(r: &Reach<'_>, change: Option<Formula>, out: &mut Updates) -> Result<(), AllocError>
     ensures { OnOk result (map update_of out.new ≡ map update_of out.old
-        ++ sets_reach (source_of r.source.now) r.field.0 r.variable.0 (pre_of change)) }
+        ++ sets_reach (source_of r.now.source.now) r.now.field.0 r.now.variable.0 (pre_of change)) }
 {
     let Some(formula) = change else {
         return Ok(());
@@ -48,8 +48,8 @@ fn put_field(
             field: FieldId(f),
             variable: VarId(z),
         };
-        let change = change_of(alloc, r, assign)?;
-        put_change(r, change, out)?;
+        let change = change_of(alloc, &r, assign)?;
+        put_change(&r, change, out)?;
     }
     Ok(())
 }

@@ -8,7 +8,8 @@ use Rattle.std.proofs.lemmas.List.{length-map}
 use Rattle.std.proofs.lemmas.List.Elements.{All-nil, All-cons, All-head, All-tail}
 use Rattle.std.proofs.lemmas.List.FromFn.{get_or-range_with_len, length-range_with_len}
 use Rattle.tv_model.specs.Heap.{Heap, Holds, IsTuple}
-use Rattle.tv_model.specs.Rules.{IsHeap, IsConcrete, MeetsProgram, MeetsRule, blank, function_rule, unique_rule}
+use Rattle.tv_model.specs.Rules.{IsHeap, IsConcrete, MeetsProgram, MeetsRule, blank, function_rule}
+use Rattle.tv_model.specs.Rules.{unique_rule}
 use Rattle.tv_model.specs.Step.{IsMiddle, with_new}
 use Rattle.tv_model.specs.Truth.{Assignment, IsWalk, put}
 use Rattle.tv_model.proofs.Lists.{Contains-cases, Contains-none, pushed-old}

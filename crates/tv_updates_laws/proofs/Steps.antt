@@ -18,7 +18,8 @@ use Rattle.tv_source.specs.Valid.{IsFieldOf, IsSource, IsVariableOf}
 use Rattle.tv_plang_laws.specs.Compiled.{compiled, compiled_preds, numbers_below, reach_pred}
 use Rattle.tv_plang_laws.specs.Positions.{last}
 use Rattle.tv_plang_laws.proofs.Predicates.{PredAt, of_variable, of_field, of_reach, pred-at, range-below}
-use Rattle.tv_updates_laws.specs.Updated.{all_assigned, end_rule, field_rules, reach_number, reach_rule, reach_rules}
+use Rattle.tv_updates_laws.specs.Updated.{all_assigned, end_rule, field_rules, reach_number, reach_rule}
+use Rattle.tv_updates_laws.specs.Updated.{reach_rules}
 use Rattle.tv_updates_laws.specs.Updated.{reach_updates, updated_program, variable_rules, with_reaches}
 use Rattle.tv_updates_laws.proofs.Faithful.{IsFaithful, Leads, faithful, reach-found}
 use Rattle.tv_updates_laws.proofs.Pairings.{HasPair, IsOfReach, IsPaired, block-paired, found-among}

@@ -37,7 +37,8 @@ loop-place-preserved c =
           (subst (λ (e : EngineForm). IsTrue c.in_ok-on.on ↔ HasNoOpening (program_of e.program) s)
           (c.loop-place.invariant.same ∙ c.requires.ready.made) c.in_ok-on.ensures.dropped)
           (opening-at p initial k s (subst (λ (ss : List StructureForm). slice_get ss k ≡ Some s)
-          c.as_slice-s-items.ensures (slice_get-get_or c.as_slice-s-items.result.now k s c.loop-place-test.true ∙ ap Some (sym c.s-item.is)))))
+          c.as_slice-s-items.ensures (slice_get-get_or c.as_slice-s-items.result.now k s c.loop-place-test.true
+          ∙ ap Some (sym c.s-item.is)))))
           c.in_ok-push_if.ensures;
       same = cc;
     }
