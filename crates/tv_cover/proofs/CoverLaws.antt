@@ -16,7 +16,7 @@ use Rattle.tv_embedding_laws.specs.Embedding.{IsEmbedded}
 use Rattle.tv_structure_form.specs.StructureForm.{StructureForm, arities_of, structure_of}
 use Rattle.tv_cover.specs.Covers.{IsFirstCover, IsCoverAt, HasNoCoverAt, HasCoversAmong}
 use Rattle.tv_cover.specs.Indexed.{AreIndexed, glances_of}
-use Rattle.tv_cover.specs.Glance.{GlanceForm, glance_of, MayEmbed, IsOnlyMap}
+use Rattle.tv_cover.specs.Glance.{GlanceForm, glance_of, AreKnown, MayEmbed, IsOnlyMap}
 use Rattle.tv_cover.specs.Noted.{Finds}
 use Rattle.tv_cover.specs.declared.noted.Noted.{Noted}
 use Rattle.tv_kleene.specs.declared.K3.{K3}
@@ -26,10 +26,11 @@ use Rattle.tv_cover.proofs.NotedLaws.{found-place}
 pub covers-among : (noted : Noted) (targets : List StructureForm) (s : StructureForm)
     (glance : GlanceForm) (places : List ℕ) → glance ≡ glance_of s
     → All (λ t. arities_of s ≡ arities_of t) targets → AreIndexed noted (glances_of targets)
-    → ((known : List K3) → Contains noted.known.items known → Finds noted glance known places)
+    → ((known : List K3) → Contains noted.known.items known → AreKnown glance known → Finds noted glance known places)
     → HasCoversAmong targets s places
 covers-among noted targets s glance places is alike indexed each place t listed embedded =
-    let Each : GlanceForm → Type 0 = λ g. (known : List K3) → Contains noted.known.items known → Finds noted g known places
+    let Each : GlanceForm → Type 0 = λ g.
+    (known : List K3) → Contains noted.known.items known → AreKnown g known → Finds noted g known places
     in found-place noted targets s places indexed (subst Each is each) place t listed
     (All-found (λ x. arities_of s ≡ arities_of x) targets place t alike listed) embedded
 

@@ -9,6 +9,7 @@ use Rattle.std.specs.List.{range_with_len}
 use Rattle.std.proofs.lemmas.Bool.{cases_lt, cases_eq, cases_order}
 use Rattle.std.proofs.lemmas.List.{get_or_past, get_or_default, ext_get_or, length-set, length-replicate}
 use Rattle.std.proofs.lemmas.List.{get_or-set_other, get_or-set_same, get_or_append_left}
+use Rattle.std.proofs.lemmas.List.{get_or-map, get_or-replicate, length-map}
 use Rattle.std.proofs.lemmas.List.{get_or_push, length_push, take_all}
 use Rattle.std.proofs.lemmas.List.Sums.{fold_more}
 use Rattle.std.proofs.lemmas.List.Elements.{All-nil, All-cons}
@@ -16,7 +17,7 @@ use Rattle.std.proofs.lemmas.List.FromFn.{length-map-range_with_len, get_or-map-
 use Rattle.std.proofs.lemmas.List.FromFn.{map-range_with_len_more}
 use Rattle.tv_kleene.specs.declared.K3.{K3}
 use Rattle.tv_kleene.specs.declared.K3.TheVariants.{No, Half, Yes}
-use Rattle.tv_kleene.specs.Kleene.{LiesUnder, smaller_of, larger_of, join_of}
+use Rattle.tv_kleene.specs.Kleene.{LiesUnder, smaller_of, larger_of, negation_of, join_of}
 use Rattle.tv_kleene.proofs.Lattice.{join-same, larger-yes, smaller-no, smaller-yes, value-decided}
 use Rattle.tv_row.specs.Bits.{paired, padded, number_of, is_possible, is_certain}
 use Rattle.tv_row.proofs.RowOps.{no_word, no_place}
@@ -31,7 +32,8 @@ use Rattle.tv_struct.specs.StructureRows.{flag_value}
 use Rattle.tv_structure_form.proofs.Library.{Contains-range, below-range, value_at-past}
 use Rattle.tv_cover.specs.Glance.{profile_of, nullary_value, value_near, profile_near, GlanceForm, glance_of}
 use Rattle.tv_cover.specs.Glance.{LieUnder}
-use Rattle.tv_cover.specs.Glance.{MayEmbed, AreOnlyImages, IsOnlyMap, IsDefinite, AreKnown, profile_number}
+use Rattle.tv_cover.specs.Glance.{MayEmbed, AreOnlyImages, IsOnlyMap, IsDefinite, AreKnown, AreWithinMarks}
+use Rattle.tv_cover.specs.Glance.{profile_number}
 use Rattle.tv_cover.specs.Glance.{slots_of, greatest_of, glance_number}
 use Rattle.tv_cover.specs.Glance.{slot_of, AreSummariesTo, AreSummaries, AreWithin}
 
@@ -783,6 +785,24 @@ pub may-embed : (s t : StructureForm) → arities_of s ≡ arities_of t → IsEm
     → MayEmbed (glance_of s) (glance_of t)
 may-embed s t same (f, e) = may s t f e same
 
+-- what is known in a structure above is known below
+definite-below : (known below above : List K3) → LieUnder below above → IsDefinite known above → IsDefinite known below
+definite-below known below above under is place some half =
+    is place some (half-under (get_or below place No) (get_or above place No) half (under place))
+
+pub known-below : (s t : StructureForm) (known : List K3) → arities_of s ≡ arities_of t
+    → IsEmbedded (structure_of s) (structure_of t) → AreKnown (glance_of t) known → AreKnown (glance_of s) known
+known-below s t known same embedded are = record {
+  nullary = definite-below known (glance_of s).nullary (glance_of t).nullary may.nullary are.nullary;
+  unary = λ k d lt.
+      let above = may.into k d lt
+      in definite-below known (get_or (glance_of s).unary k d) above.1 above.4
+      (subst (IsDefinite known) above.3 (are.unary above.0 above.1 above.2));
+}
+  where
+    may : MayEmbed (glance_of s) (glance_of t)
+    may = may-embed s t same embedded
+
 -- the only map that may be an embedding is each that is one
 pub same-map : (s t : StructureForm) (images other : List ℕ) → arities_of s ≡ arities_of t
     → IsOnlyMap (glance_of s) (glance_of t) images → IsEmbedding s t other → other ≡ images
@@ -790,3 +810,87 @@ same-map s t images other same is e =
     ext_get_or 0 other images
     (e.0 ∙ sym (is.count ∙ length-map-range_with_len (profile_near s) 0 s.size))
     (λ u lt. only-image s t (image_of other) e.1 same images is u (omega (arith, lt, e.0)))
+
+-- ---- marks of what is known, one row after the other
+
+definite-or-not : (k : K3) → k ≢ Half → larger_of k (negation_of k) ≡ Yes
+definite-or-not No is = refl
+definite-or-not Half is = absurd (is refl)
+definite-or-not Yes is = refl
+
+smaller-of-Yes : (k : K3) → smaller_of k Yes ≡ k
+smaller-of-Yes No = refl
+smaller-of-Yes Half = refl
+smaller-of-Yes Yes = refl
+
+pub length-either : (row : List K3) → length row ≡ 256 → length (paired larger_of row (map negation_of row)) ≡ 256
+length-either row wide =
+    length-paired larger_of row (map negation_of row) (wide ∙ sym (length-map row negation_of ∙ wide)) ∙ wide
+
+pub marks-more : (marks row : List K3) (place : ℕ) → length marks ≡ 256 → length row ≡ 256 → place < 256
+    → get_or marks place No ≡ Yes → get_or row place No ≢ Half
+    → get_or (paired smaller_of marks (paired larger_of row (map negation_of row))) place No ≡ Yes
+marks-more marks row place long wide lt on definite =
+    let many : length (map negation_of row) ≡ 256 = length-map row negation_of ∙ wide
+    in let both : length (paired larger_of row (map negation_of row)) ≡ 256 = length-either row wide
+    in let here : place < length row = omega (arith, wide, lt)
+    in get_or-paired smaller_of marks (paired larger_of row (map negation_of row)) place (omega (arith, long, lt))
+    (omega (arith, both, lt))
+    ∙ ap (λ k. smaller_of k (get_or (paired larger_of row (map negation_of row)) place No)) on
+    ∙ ap (smaller_of Yes)
+    (get_or-paired larger_of row (map negation_of row) place here (omega (arith, many, lt))
+    ∙ ap (larger_of (get_or row place No)) (get_or-map negation_of row place No No here)
+    ∙ definite-or-not (get_or row place No) definite)
+
+-- what is marked in the other list stays
+pub marked-same : (known marks : List K3) → length known ≡ 256 → length marks ≡ 256 → AreWithinMarks known marks
+    → paired smaller_of known marks ≡ known
+marked-same known marks long wide are =
+    ext_get_or No (paired smaller_of known marks) known count
+    (λ i lt. at i (omega (arith, lt, count)) (value-decided (get_or known i No) No))
+  where
+    count : length (paired smaller_of known marks) ≡ length known
+    count = length-paired smaller_of known marks (long ∙ sym wide)
+
+    at : (i : ℕ) → i < length known → (get_or known i No ≡ No) ⊎ (¬ (get_or known i No ≡ No))
+        → get_or (paired smaller_of known marks) i No ≡ get_or known i No
+    at i lt (inl none) =
+        get_or-paired smaller_of known marks i lt (omega (arith, lt, long, wide))
+        ∙ ap (λ k. smaller_of k (get_or marks i No)) none ∙ sym none
+    at i lt (inr some) =
+        get_or-paired smaller_of known marks i lt (omega (arith, lt, long, wide))
+        ∙ ap (smaller_of (get_or known i No)) (are i (omega (arith, lt, long)) some)
+        ∙ smaller-of-Yes (get_or known i No)
+
+-- the places at which the first n rows are known are marked
+pub AreMarkedTo : GlanceForm → (n : ℕ) → (marks : List K3) → Type 0
+AreMarkedTo glance n marks =
+    (place : ℕ) → place < 256 → get_or glance.nullary place No ≢ Half
+    → ((k : ℕ) → k < n → k < length glance.unary → get_or (get_or glance.unary k []) place No ≢ Half)
+    → get_or marks place No ≡ Yes
+
+-- what the marks are after one more row
+abbrev pub GoesOnTo : (marks row next : List K3) → Type 0
+GoesOnTo marks row next =
+    (place : ℕ) → place < 256 → get_or marks place No ≡ Yes → get_or row place No ≢ Half → get_or next place No ≡ Yes
+
+pub marked-first : (glance : GlanceForm) (all row marks : List K3) → all ≡ replicate 256 Yes → row ≡ glance.nullary
+    → GoesOnTo all row marks → AreMarkedTo glance 0 marks
+unfolding AreMarkedTo
+marked-first glance all row marks full is goes place lt nullary unary =
+    goes place lt (ap (λ r. get_or r place No) full ∙ get_or-replicate 256 place Yes No lt)
+    (subst (λ r. get_or r place No ≢ Half) (sym is) nullary)
+
+pub marked-more : (glance : GlanceForm) (n : ℕ) (row marks next : List K3) → n < length glance.unary
+    → row ≡ get_or glance.unary n [] → AreMarkedTo glance n marks → GoesOnTo marks row next
+    → AreMarkedTo glance (n + 1) next
+unfolding AreMarkedTo
+marked-more glance n row marks next inside is before goes place lt nullary unary =
+    goes place lt (before place lt nullary (λ k less within. unary k (omega (arith, less)) within))
+    (subst (λ r. get_or r place No ≢ Half) (sym is) (unary n (omega arith) inside))
+
+pub marked-all : (glance : GlanceForm) (n : ℕ) (marks known : List K3) → AreMarkedTo glance n marks
+    → AreKnown glance known → AreWithinMarks known marks
+unfolding AreMarkedTo
+marked-all glance n marks known all are place lt some =
+    all place lt (are.nullary place some) (λ k less within. are.unary k [] within place some)

@@ -19,7 +19,7 @@ use Rattle.tv_cover.specs.Noted.{Finds, IsNoted, Notes, noted_for}
 use Rattle.tv_cover.specs.Indexed.{AreIndexed, AreIndexedTo, glances_of}
 use Rattle.tv_cover.specs.declared.noted.Noted.{Noted}
 use Rattle.tv_cover.specs.declared.noted.Noting.{Noting}
-use Rattle.tv_cover.proofs.GlanceLaws.{glance-same, summaries-within}
+use Rattle.tv_cover.proofs.GlanceLaws.{glance-same, known-below, summaries-within}
 
 -- ---- one more place
 
@@ -101,7 +101,8 @@ glance-at structures place t listed =
 
 pub found-place : (noted : Noted) (structures : List StructureForm) (s : StructureForm) (found : List ℕ)
     → AreIndexed noted (glances_of structures)
-    → ((known : List K3) → Contains noted.known.items known → Finds noted (glance_of s) known found)
+    → ((known : List K3) → Contains noted.known.items known → AreKnown (glance_of s) known
+    → Finds noted (glance_of s) known found)
     → (place : ℕ) (t : StructureForm) → slice_get structures place ≡ Some t → arities_of s ≡ arities_of t
     → IsEmbedded (structure_of s) (structure_of t) → Contains found place
 found-place noted structures s found indexed each place t listed same embedded =
@@ -109,7 +110,7 @@ found-place noted structures s found indexed each place t listed same embedded =
     in let P : ℕ → Type 0 = λ number. Contains (noted_for noted number) is.noting
     in let Q : ℕ → Type 0 = λ p. Contains found p
     in subst Q is.place_is
-    (each is.known is.row is.noting
+    (each is.known is.row (known-below s t is.known same embedded is.are_known) is.noting
     (subst P (sym (glance-same s t same embedded is.known is.are_known)) is.there)
     (λ slots are.
     summaries-within s t same embedded is.known is.are_known slots is.noting.summaries are is.summaries))
@@ -117,7 +118,8 @@ found-place noted structures s found indexed each place t listed same embedded =
 -- the rows so far were looked up
 pub AreLookedUp : Noted → (glance : GlanceForm) → (n : ℕ) → (found : List ℕ) → Type 0
 AreLookedUp noted glance n found =
-    (k : ℕ) → k < n → k < length noted.known.items → Finds noted glance (get_or noted.known.items k []) found
+    (k : ℕ) → k < n → k < length noted.known.items → AreKnown glance (get_or noted.known.items k [])
+    → Finds noted glance (get_or noted.known.items k []) found
 
 pub looked-none : (noted : Noted) (glance : GlanceForm) (found : List ℕ) → AreLookedUp noted glance 0 found
 unfolding AreLookedUp
@@ -125,25 +127,28 @@ looked-none noted glance found k lt within = absurd (omega arith)
 
 pub looked-more : (noted : Noted) (glance : GlanceForm) (n : ℕ) (row : List K3) (old new : List ℕ)
     → row ≡ get_or noted.known.items n [] → ((place : ℕ) → Contains old place → Contains new place)
-    → Finds noted glance row new → AreLookedUp noted glance n old → AreLookedUp noted glance (n + 1) new
+    → (AreKnown glance row → Finds noted glance row new) → AreLookedUp noted glance n old
+    → AreLookedUp noted glance (n + 1) new
 unfolding AreLookedUp
 looked-more noted glance n row old new is kept added before k lt within = at (cases_lt k n)
   where
-    at : (k < n) ⊎ (n ≤ k) → Finds noted glance (get_or noted.known.items k []) new
-    at (inl below) = λ noting has may. kept noting.place (before k below within noting has may)
+    Looked : List K3 → Type 0
+    Looked x = AreKnown glance x → Finds noted glance x new
+
+    at : (k < n) ⊎ (n ≤ k) → Looked (get_or noted.known.items k [])
+    at (inl below) = λ are noting has may. kept noting.place (before k below within are noting has may)
     at (inr from) =
         let here : k ≡ n = omega arith
         in let same : row ≡ get_or noted.known.items k [] = is ∙ ap (λ i. get_or noted.known.items i []) (sym here)
-        in let Q : List K3 → Type 0 = λ x. Finds noted glance x new
-        in subst Q same added
+        in subst Looked same added
 
 pub looked-all : (noted : Noted) (glance : GlanceForm) (n : ℕ) (found : List ℕ) → length noted.known.items ≤ n
     → AreLookedUp noted glance n found
-    → (known : List K3) → Contains noted.known.items known → Finds noted glance known found
+    → (known : List K3) → Contains noted.known.items known → AreKnown glance known → Finds noted glance known found
 unfolding AreLookedUp
 looked-all noted glance n found all before known (k, lt, at) =
     let same : get_or noted.known.items k [] ≡ known = sym (get_or_default noted.known.items k known [] lt) ∙ at
-    in let Q : List K3 → Type 0 = λ x. Finds noted glance x found
+    in let Q : List K3 → Type 0 = λ x. AreKnown glance x → Finds noted glance x found
     in subst Q same (before k (omega (arith, lt, all)) lt)
 
 -- the notings so far were gone through

@@ -70,6 +70,11 @@ pub record AreKnown (glance : GlanceForm) (known : List K3) : Type 0 where
   pub nullary : IsDefinite known glance.nullary
   pub unary : All (IsDefinite known) glance.unary
 
+-- each of the 256 places that isn't No in the one list is Yes in the other
+abbrev pub AreWithinMarks : (known marks : List K3) → Type 0
+AreWithinMarks known marks =
+    (place : ℕ) → place < 256 → slice_index_or known place No ≢ No → slice_index_or marks place No ≡ Yes
+
 -- a number for the values at the places that are known
 abbrev pub profile_number : (known values : List K3) → ℕ
 profile_number known values = row_mixed 0 (paired smaller_of values known)

@@ -1,14 +1,17 @@
 //! What a structure says at a glance.
 
-ghost use Rattle.std.specs.Prelude.{◌≡◌, ◌≢◌, ◌<◌, ◌≤◌, ℕ, [], length, max, All, Any, IfOk, IfNone};
+ghost use Rattle.std.specs.Prelude.{◌≡◌, ◌≢◌, ◌<◌, ◌≤◌, ℕ, List, [], length, max, All, Any, IfOk, IfNone};
 ghost use Rattle.std.specs.Prelude.{IfSome, IsTrue, slice_index_or, slice_set};
+ghost use Rattle.tv_kleene.specs.declared.K3.{K3};
 ghost use Rattle.tv_kleene.specs.declared.K3.TheVariants.{No, Half, Yes};
 ghost use Rattle.tv_structure_form.specs.StructureForm.{arities_of, value_at, summary_at};
 ghost use Rattle.tv_struct.specs.StructureRows.{flag_value};
 ghost use Rattle.tv_structure_form.specs.TableForm.{AreIndividuals};
 ghost use Rattle.tv_struct.specs.TupleForm.{tuple_of};
-ghost use Rattle.tv_cover.specs.Glance.{AreKnown, AreOnlyImages, AreSummaries, IsOnlyMap, LieUnder, MayEmbed};
-ghost use Rattle.tv_cover.specs.Glance.{slot_of, glance_number, glance_of, nullary_value, profile_near};
+ghost use Rattle.tv_cover.specs.Glance.{AreKnown, AreWithinMarks, AreOnlyImages, AreSummaries, IsOnlyMap};
+ghost use Rattle.tv_cover.specs.Glance.{LieUnder};
+ghost use Rattle.tv_cover.specs.Glance.{MayEmbed, slot_of, glance_number, glance_of, nullary_value};
+ghost use Rattle.tv_cover.specs.Glance.{profile_near};
 ghost use Rattle.tv_cover.specs.Glance.{profile_of, value_near};
 
 use crate::noted::has_row;
@@ -321,6 +324,17 @@ impl Glance {
             self.add_known(&mut known, place);
         }
         known
+    }
+
+    /// A profile with `Yes` at each place where no value is unknown. Of other places nothing is promised.
+    pub fn marks(&self) -> Profile
+        ensures { (known : List K3) → AreKnown self.now known → AreWithinMarks known result }
+    {
+        let mut marks = Profile::of_yes().known_in(&self.nullary);
+        for row in self.unary.as_slice() {
+            marks = marks.known_in(row);
+        }
+        marks
     }
 
     /// Whether the same is said about two individuals: a hint, of which nothing is promised.

@@ -6,7 +6,7 @@ ghost use Rattle.std.specs.Ordering.{nat_cmp};
 ghost use Rattle.std.specs.BTreeMap.{get};
 ghost use Rattle.std.specs.List.Sorted.{IsNonDecreasing};
 ghost use Rattle.tv_kleene.specs.declared.K3.{K3};
-ghost use Rattle.tv_cover.specs.Glance.{AreWithin, glance_number};
+ghost use Rattle.tv_cover.specs.Glance.{AreKnown, AreWithinMarks, AreWithin, glance_number};
 ghost use Rattle.tv_cover.specs.Noted.{Finds, Notes};
 
 use crate::glance::Glance;
@@ -156,16 +156,38 @@ impl Noted {
         add_places(found, notings, glance.summaries(known))
     }
 
+    /// The same where no place that is known has an unknown value here: one with such a value lies under none
+    /// with that profile.
+    fn add_if_known(
+        &self,
+        found: &mut Vec<usize>,
+        glance: &Glance,
+        marks: &Profile,
+        known: &Profile,
+    ) -> Result<(), AllocError>
+        requires { (other : List K3) → AreKnown glance.now other → AreWithinMarks other marks.now }
+        ensures kept { OnOk result
+            ((place : ℕ) → Contains found.old.items place → Contains found.new.items place) }
+        ensures added { OnOk result
+            (AreKnown glance.now known.now → Finds self.now glance.now known.now found.new.items) }
+    {
+        if !known.may_be_marked(marks) {
+            return Ok(());
+        }
+        self.add_alike(found, glance, known)
+    }
+
     /// The places of structures that say the same at a glance as far as it is known in them, and have
     /// summaries where this has some, in ascending order.
     pub fn places(&self, alloc: Global, glance: &Glance) -> Result<Vec<usize>, AllocError>
         ensures each { IfOk result (λ found. (known : List K3) → Contains self.now.known.items known
-            → Finds self.now glance.now known found.items) }
+            → AreKnown glance.now known → Finds self.now glance.now known found.items) }
         ensures order { IfOk result (λ found. IsNonDecreasing found.items) }
     {
         let mut found = Vec::new(alloc);
+        let marks = glance.marks();
         for known in self.known.as_slice() {
-            self.add_alike(&mut found, glance, known)?;
+            self.add_if_known(&mut found, glance, &marks, known)?;
         }
         found.sort_unstable();
         Ok(found)

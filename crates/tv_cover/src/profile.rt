@@ -1,8 +1,9 @@
 //! Values at 256 places, which say something of a structure or of one of its individuals.
 
-ghost use Rattle.std.specs.Prelude.{◌≡◌, ◌<◌, ◌≤◌, IsTrue, length, replicate, slice_index_or, slice_set};
-ghost use Rattle.tv_kleene.specs.declared.K3.TheVariants.{No};
-ghost use Rattle.tv_cover.specs.Glance.{LieUnder, profile_number};
+ghost use Rattle.std.specs.Prelude.{ℕ, ◌≡◌, ◌≢◌, ◌<◌, ◌≤◌, IsTrue, length, replicate, slice_index_or};
+ghost use Rattle.std.specs.Prelude.{slice_set};
+ghost use Rattle.tv_kleene.specs.declared.K3.TheVariants.{No, Half, Yes};
+ghost use Rattle.tv_cover.specs.Glance.{AreWithinMarks, LieUnder, profile_number};
 
 use std::marker::Model;
 use tv_kleene::K3;
@@ -83,6 +84,33 @@ impl Profile {
         ensures { IsTrue result → self.now ≡ other.now }
     {
         self.row.equals(&other.row)
+    }
+
+    /// `Yes` at all places.
+    pub fn of_yes() -> Profile
+        ensures { result ≡ replicate 256 Yes }
+    {
+        Profile {
+            row: Row::of(256, K3::Yes),
+        }
+    }
+
+    /// A profile with `Yes` where it has it here and the other value isn't unknown.
+    pub fn known_in(&self, other: &Profile) -> Profile
+        ensures { (place : ℕ) → place < 256 → slice_index_or self.now place No ≡ Yes
+            → slice_index_or other.now place No ≢ Half → slice_index_or result place No ≡ Yes }
+    {
+        Profile {
+            row: self.row.and(&other.row.or(&other.row.not())),
+        }
+    }
+
+    /// False only where some place that isn't `No` here isn't `Yes` in the other profile. That it is true
+    /// promises nothing.
+    pub fn may_be_marked(&self, marks: &Profile) -> bool
+        ensures { AreWithinMarks self.now marks.now → IsTrue result }
+    {
+        self.row.and(&marks.row).equals(&self.row)
     }
 
     /// A number for the values at the places that are known.

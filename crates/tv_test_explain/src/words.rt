@@ -41,7 +41,6 @@ compiled s --max-structures=5
 compiled --updates
 compiled s --updates --updates
 compiled s --updates=1
-compiled -- --updates
 edges p --updates
 plan p --updates
 step p i

@@ -10,18 +10,18 @@ loop-known-init c = looked-none c.args.self.now c.args.glance.now c.new-found.re
 pub loop-known-preserved : goal.loop-known-preserved
 loop-known-preserved c =
     looked-more c.args.self.now c.args.glance.now c.loop-known.known-index c.known-item.result c.loop-known.found.items
-    c.add_alike.new.found.items
+    c.add_if_known.new.found.items
     (row-at c.as_slice-known-items.result.now c.args.self.now.known.items c.loop-known.known-index c.known-item.result
     c.known-item.is c.as_slice-known-items.ensures.value c.loop-known-test.true)
-    c.in_ok-add_alike.ensures.kept c.in_ok-add_alike.ensures.added c.loop-known.invariant
+    c.in_ok-add_if_known.ensures.kept c.in_ok-add_if_known.ensures.added c.loop-known.invariant
 
 pub returns-clause-each : goal.returns-clause-each
-returns-clause-each c = λ known within noting has may.
+returns-clause-each c = λ known within are noting has may.
     let All-rows : List (List K3) → Type 0 = λ rows. length rows ≤ c.loop-known.known-index
     in Contains-permutation c.loop-known.found.items c.sort_unstable.new.self.items noting.place c.sort_unstable.ensures.permutation
     (looked-all c.args.self.now c.args.glance.now c.loop-known.known-index c.loop-known.found.items
     (subst All-rows c.as_slice-known-items.ensures.value c.loop-known-test.false) c.loop-known.invariant
-    known within noting has may)
+    known within are noting has may)
 
 pub returns-clause-order : goal.returns-clause-order
 returns-clause-order c = IsNonDecreasingBy-from_sort (λ x. x) c.sort_unstable.new.self.items c.sort_unstable.ensures.sorted
