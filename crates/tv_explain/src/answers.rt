@@ -111,7 +111,13 @@ fn raised_answer(
         (Reached (analyzed_of of.now) inputs.now)) }
 {
     let mut out = trail_answer(alloc, inputs, of, trail)?;
-    append_alarm(alloc, &mut out, &inputs.drawn.program, &inputs.drawn.heads, told)?;
+    append_alarm(
+        alloc,
+        &mut out,
+        &inputs.drawn.program,
+        &inputs.drawn.heads,
+        told,
+    )?;
     Ok(out)
 }
 

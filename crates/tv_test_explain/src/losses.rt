@@ -182,7 +182,15 @@ node L2 isn't reached
     },
     // of the joined analysis
     Row {
-        words: &["losses", "--join", "p", "i", "--cases", "--max-structures", "2"],
+        words: &[
+            "losses",
+            "--join",
+            "p",
+            "i",
+            "--cases",
+            "--max-structures",
+            "2",
+        ],
         files: &[("p", CYCLE), ("i", "%n = {a} %p = { x = {a} }")],
         out: "edge 0 loses 1 of 1 cases, first structure 0, by rule 2  p:2  L1 x_n_is_x ( ) L2
 case of structure 0, by rule 2
@@ -193,7 +201,15 @@ node L2 isn't reached
         ..LOST
     },
     Row {
-        words: &["losses", "--join", "p", "i", "--recompute", "--max-structures", "1"],
+        words: &[
+            "losses",
+            "--join",
+            "p",
+            "i",
+            "--recompute",
+            "--max-structures",
+            "1",
+        ],
         files: &FREE_OF_BOTH,
         out: "",
         code: 4,

@@ -28,7 +28,10 @@ const MARKED: Row<'static, 'static, 'static, 'static> = Row {
         ("p", MARKS),
         ("q", KEPT),
         ("i", "%n = {u} %p = { x = {u} sm = {u:1/2} }"),
-        ("f", "%p b() %% %action Any() { %message b() -> \"on\" { b() = 1/2 } } %% L Any() L"),
+        (
+            "f",
+            "%p b() %% %action Any() { %message b() -> \"on\" { b() = 1/2 } } %% L Any() L",
+        ),
         ("j", "%n = {} %p = { b = 0 }"),
     ],
     ..PLAIN
@@ -65,7 +68,16 @@ edge 1  p:7  L0 Ask ( ) L1  message 0 is true: \"two\"
     },
     // where there is none, no start heap and no trace is written
     Row {
-        words: &["witness", "p", "i", "1", "0", "--cells", "0", "--trace-only"],
+        words: &[
+            "witness",
+            "p",
+            "i",
+            "1",
+            "0",
+            "--cells",
+            "0",
+            "--trace-only",
+        ],
         out: "no witness with at most 0 cells\n",
         ..MARKED
     },
@@ -81,11 +93,11 @@ edge 1  p:7  L0 Ask ( ) L1  message 0 is true: \"two\"
         err: "tvla-explain: more than 0 states with 1 cells; no witness with at most 0 cells\n",
         ..MARKED
     },
-    // no heap has no individual, one has one, and with two there are more than two
+    // of one individual, marked or not, there are two heaps at each node, of two there are more
     Row {
-        words: &["witness", "p", "i", "1", "0", "--max-states", "2"],
+        words: &["witness", "p", "i", "1", "0", "--max-states", "4"],
         code: 4,
-        err: "tvla-explain: more than 2 states with 2 cells; no witness with at most 1 cells\n",
+        err: "tvla-explain: more than 4 states with 2 cells; no witness with at most 1 cells\n",
         ..MARKED
     },
     Row {

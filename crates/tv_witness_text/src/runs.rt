@@ -77,11 +77,7 @@ fn append_legs(
 }
 
 /// Appends the edge of a message, and behind it that the message is true.
-fn append_true(
-    out: &mut Vec<u8>,
-    heads: &[Bytes],
-    wanted: &Wanted<'_>,
-) -> Result<(), AllocError>
+fn append_true(out: &mut Vec<u8>, heads: &[Bytes], wanted: &Wanted<'_>) -> Result<(), AllocError>
     ensures { OnOk result (out.new.items ≡ out.old.items
         ++ true_line heads.now wanted.now.edge wanted.now.number wanted.now.message.now.text) }
 {
