@@ -8,3 +8,6 @@ pub mod Marks
 pub mod Meeting
 pub mod Turning
 pub mod Witnessing
+pub mod Preparing
+pub mod Fewer
+pub mod Finding

@@ -1,5 +1,6 @@
 -- The run to what was met at a place, as a replay.
-use Rattle.std.proofs.Common.{ℕ, ◌≡◌, ◌≤◌, List, [], ◌∷◌, ◌++◌, length, Option, Some, None, All, refl, sym, ap, subst}
+use Rattle.std.proofs.Common.{ℕ, ◌≡◌, ◌≤◌, List, [], ◌∷◌, ◌++◌, length, Option, Some, None, All, refl, sym}
+use Rattle.std.proofs.Common.{ap, subst}
 use Rattle.std.proofs.Common.{◌∙◌, ◌<◌, map, reverse, append-nil, append_assoc, ap₂, arith, rules}
 use Rattle.std.specs.Prelude.{IsSome, slice_get}
 use Rattle.std.proofs.lemmas.List.{length-map, length_push, map-append, reverse-append}
@@ -21,7 +22,9 @@ use Rattle.tv_replay_laws.proofs.JudgedRules.{judged_are_all}
 use Rattle.tv_replay_step.specs.Stepped.{IsMoved}
 use Rattle.tv_replay_step.specs.declared.moved.Moved.{Moved}
 use Rattle.tv_step_laws.specs.Sound.{IsHeapOfSome}
-use Rattle.tv_structure_form.specs.StructureForm.{StructureForm}
+use Rattle.std.specs.Prelude.{IfSome}
+use Rattle.tv_structure_form.specs.StructureForm.{StructureForm, IsStructure}
+use Rattle.tv_two_valued.specs.Laws.{IsOfProgram}
 use Rattle.tv_trace.specs.declared.trace.Move.{Move}
 use Rattle.tv_two_valued.specs.TwoValued.{heap_of}
 use Rattle.tv_witness_laws.specs.Laws.{IsClosedAim, ReplaysShowWitnesses}
@@ -29,11 +32,13 @@ use Rattle.tv_witness_laws.specs.Replays.{IsAcceptedReplay, IsSmallState, IsUnbr
 use Rattle.tv_witness_laws.specs.Witness.{IsAimedAt}
 use Rattle.tv_heap_steps.specs.Steps.{IsSmallHeap, IsUnbrokenBy, program_in}
 use Rattle.tv_heap_search.specs.Answers.{IsShortestWitness, IsShown}
-use Rattle.tv_heap_search.specs.Levels.{IsNearest}
-use Rattle.tv_heap_search.specs.Quests.{IsReadyQuest, aim_of, question_in}
-use Rattle.tv_heap_search.specs.Retraced.{IsTraceTo, heaps_of, moves_of, state_at}
-use Rattle.tv_heap_search.specs.Visited.{HasSteps, IsAt, IsGoal, IsOrigin, IsVisit, LeadsHere}
+use Rattle.tv_heap_search.specs.Levels.{IsNearestVisit}
+use Rattle.tv_heap_search.specs.Quests.{IsReadyQuest, aim_of_goal, question_in}
+use Rattle.tv_heap_search.specs.Retraced.{HasValuesFor, IsTraceTo, heaps_along, moves_of, state_at}
+use Rattle.tv_heap_search.specs.Goals.{IsVisitAimedAt}
+use Rattle.tv_heap_search.specs.Visited.{HasSteps, HasVisitAt, IsVisitOrigin, IsVisit, LeadsHere}
 use Rattle.tv_heap_search.specs.declared.quest.Quest.{Quest}
+use Rattle.tv_heap_search.specs.declared.quest.Target.{Target}
 use Rattle.tv_heap_search.specs.declared.retrace.Leg.{Leg}
 use Rattle.tv_heap_search.specs.declared.retrace.Track.{Track}
 use Rattle.tv_heap_search.specs.declared.witness.Witness.{Witness}
@@ -43,7 +48,8 @@ use Rattle.tv_heap_search.proofs.Growing.{at_once}
 
 -- ---- one state more
 
-next_push : (p : ProgramForm) (listing : List (List StructureForm)) (first : State) (moves : List Move) (later : List State)
+next_push : (p : ProgramForm) (listing : List (List StructureForm)) (first : State) (moves : List Move)
+    (later : List State)
     (move : Move) (y : State) → AreNextStates p listing first moves later
     → IsNextState p listing move (last_shown first later) y
     → AreNextStates p listing first (moves ++ move ∷ []) (later ++ y ∷ [])
@@ -88,11 +94,12 @@ state_of m = record {
 
 -- ---- the first place
 
-pub trace_first : (x : Quest) (list : List Visit) (place : ℕ) (v : Visit) → IsAt list place v → IsVisit x list place v
+pub trace_first : (x : Quest) (list : List Visit) (place : ℕ) (v : Visit) → HasVisitAt list place v
+    → IsVisit x list place v
     → v.origin ≡ Start → (start : StructureForm) → start ≡ v.heap
     → IsTraceTo x list place (record { start = start; legs = [] })
 trace_first x list place v at visit e start same =
-    let origin : IsOrigin x list place v Start = subst (IsOrigin x list place v) e visit.origin
+    let origin : IsVisitOrigin x list place v Start = subst (IsVisitOrigin x list place v) e visit.origin
     in record {
       heap = subst (λ (s : StructureForm). IsSmallHeap x.walker s) (sym same) visit.heap;
       start = subst (λ (s : StructureForm). IsStart (program_in x.walker) (heap_of s)) (sym same) origin.1;
@@ -105,6 +112,7 @@ trace_first x list place v at visit e start same =
           (subst (λ (s : StructureForm). s.size ≤ x.walker.cells) (sym same) visit.heap.small)
           (All-nil (IsSmallState x.walker.cells));
       heaps = refl;
+      values = All-nil (HasValuesFor (program_in x.walker));
       visit = v;
       is_at = at;
       node = sym origin.0;
@@ -118,13 +126,14 @@ trace_first x list place v at visit e start same =
 
 -- ---- one place more
 
-module _ (x : Quest) (list : List Visit) (place before : ℕ) (v : Visit) (step : Move) (at : IsAt list place v)
-    (e : v.origin ≡ Step before step) (visit : IsVisit x list place v) (w : Track) (trace : IsTraceTo x list before w) where
+module _ (x : Quest) (list : List Visit) (place before : ℕ) (v : Visit) (step : Move) (at : HasVisitAt list place v)
+    (e : v.origin ≡ Step before step) (visit : IsVisit x list place v) (w : Track)
+    (trace : IsTraceTo x list before w) where
   abbrev p : ProgramForm
   p = program_in x.walker
 
-  origin : IsOrigin x list place v (Step before step)
-  origin = subst (IsOrigin x list place v) e visit.origin
+  origin : IsVisitOrigin x list place v (Step before step)
+  origin = subst (IsVisitOrigin x list place v) e visit.origin
 
   abbrev b : Visit
   b = origin.1.0
@@ -166,7 +175,7 @@ module _ (x : Quest) (list : List Visit) (place before : ℕ) (v : Visit) (step 
   moves_more leg same =
       map-append step_of w.legs (leg ∷ []) ∙ ap (λ (m : Move). moves_of w ++ m ∷ []) same
 
-  heaps_more : (leg : Leg) → leg.heap ≡ v.heap → heaps_of (longer leg) ≡ map heap_in (trace.later ++ y ∷ [])
+  heaps_more : (leg : Leg) → leg.heap ≡ v.heap → heaps_along (longer leg) ≡ map heap_in (trace.later ++ y ∷ [])
   heaps_more leg same =
       map-append heap_at w.legs (leg ∷ [])
       ∙ ap₂ (λ hs h. hs ++ h ∷ []) trace.heaps (same ∙ leads.heap)
@@ -185,6 +194,9 @@ module _ (x : Quest) (list : List Visit) (place before : ℕ) (v : Visit) (step 
     unbroken = unbroken_push x.walker.mode (state_at w.start) trace.later y trace.unbroken leads.accepted.unbroken;
     small = All-push (IsSmallState x.walker.cells) (state_at w.start ∷ trace.later) y trace.small leads.accepted.small;
     heaps = heaps_more leg heaps_same;
+    values = subst (All (HasValuesFor p)) (sym (moves_more leg steps_same))
+        (All-push (HasValuesFor p) (moves_of w) step trace.values
+        (subst (λ (o : Option StructureForm). IfSome o (λ s. IsStructure s × IsOfProgram p s)) (sym leads.values) tt));
     visit = v;
     is_at = at;
     node = ap (λ (z : State). z.node) (last_push (state_at w.start) trace.later y) ∙ sym leads.node;
@@ -204,7 +216,7 @@ on_at_once x list place w trace =
     subst (λ ls. IsTraceTo x list place (record { start = w.start; legs = ls })) (sym (append-nil w.legs)) trace
 
 pub on_before : (x : Quest) (list : List Visit) (place last before : ℕ) (legs : List Leg) (v : Visit) (step : Move)
-    → IsAt list last v → v.origin ≡ Step before step → IsVisit x list last v → GoesOn x list place last legs
+    → HasVisitAt list last v → v.origin ≡ Step before step → IsVisit x list last v → GoesOn x list place last legs
     → (leg : Leg) → leg.step ≡ step → leg.heap ≡ v.heap → GoesOn x list place before (legs ++ leg ∷ [])
 on_before x list place last before legs v step at e visit on leg steps_same heaps_same w trace =
     subst (λ ls. IsTraceTo x list place (record { start = w.start; legs = ls }))
@@ -215,7 +227,7 @@ on_before x list place last before legs v step at e visit on leg steps_same heap
 -- the place before lies before
 pub origin_below : (x : Quest) (list : List Visit) (place before : ℕ) (v : Visit) (step : Move)
     → IsVisit x list place v → v.origin ≡ Step before step → before < place
-origin_below x list place before v step visit e = (subst (IsOrigin x list place v) e visit.origin).0
+origin_below x list place before v step visit e = (subst (IsVisitOrigin x list place v) e visit.origin).0
 
 -- ---- the witness
 
@@ -239,9 +251,10 @@ last_heap-same : (s : StructureForm) (c : Option ListedCover) (later : List Stat
 last_heap-same s c [] = refl
 last_heap-same s c (z ∷ later) = refl
 
-module _ (x : Quest) (valid : IsValid (program_in x.walker)) (list : List Visit) (place : ℕ)
-    (w : Track) (trace : IsTraceTo x list place w) (c : ListedCover) (above : IsFirstAbove w.start x.initial.now (Some c))
-    (goal : (v : Visit) → IsAt list place v → IsGoal x v) where
+module _ (x : Quest) (target : Target) (valid : IsValid (program_in x.walker)) (list : List Visit) (place : ℕ)
+    (w : Track) (trace : IsTraceTo x list place w) (c : ListedCover)
+    (above : IsFirstAbove w.start x.initial.now (Some c))
+    (goal : (v : Visit) → HasVisitAt list place v → IsVisitAimedAt target v) where
   abbrev first : State
   first = record (state_at w.start) { initial = Some c }
 
@@ -250,7 +263,7 @@ module _ (x : Quest) (valid : IsValid (program_in x.walker)) (list : List Visit)
   with_first {P} one to all =
       All-cons P first trace.later (to (state_at w.start) one) (All-tail P (state_at w.start) trace.later all)
 
-  abbrev is_goal : IsGoal x trace.visit
+  abbrev is_goal : IsVisitAimedAt target trace.visit
   is_goal = goal trace.visit trace.is_at
 
   unbroken : (mode : Mode) → IsUnbrokenIn mode (state_at w.start) trace.later → IsUnbrokenIn mode first trace.later
@@ -260,7 +273,7 @@ module _ (x : Quest) (valid : IsValid (program_in x.walker)) (list : List Visit)
   abbrev whole : Witness
   whole = record { initial = c.structure; track = w }
 
-  pub shown : IsShown (question_in x) whole first trace.later
+  pub shown : IsShown (question_in x target) whole first trace.later
   shown = record {
     structure = trace.heap.is;
     two_valued = trace.heap.two_valued;
@@ -288,6 +301,7 @@ module _ (x : Quest) (valid : IsValid (program_in x.walker)) (list : List Visit)
     begins = refl;
     number = refl;
     heaps = trace.heaps;
+    values = trace.values;
     accepted = record {
       initial = search rules;
       rules = with_first {P = MeetsRules} refl (λ z is. is) trace.rules;
@@ -295,14 +309,14 @@ module _ (x : Quest) (valid : IsValid (program_in x.walker)) (list : List Visit)
     };
     small = with_first {P = IsSmallState x.walker.cells} trace.heap.small (λ z is. is) trace.small;
     node = last_node w.start (Some c) trace.later ∙ trace.node ∙ is_goal.0;
-    aim = subst (λ (s : StructureForm). IsAimedAt (aim_of x.goal) (heap_of s))
+    aim = subst (λ (s : StructureForm). IsAimedAt (aim_of_goal target.goal) (heap_of s))
         (sym (last_heap-same w.start (Some c) trace.later ∙ trace.ends)) is_goal.1;
   }
 
-  pub shortest : IsClosedAim (aim_of x.goal) → ReplaysShowWitnesses → IsNearest x list place
-      → IsShortestWitness (question_in x) whole
+  pub shortest : IsClosedAim (aim_of_goal target.goal) → ReplaysShowWitnesses → IsNearestVisit x target list place
+      → IsShortestWitness (question_in x target) whole
   shortest closed show near =
-      let found = show (question_in x) valid closed w.start trace.heap.is trace.heap.two_valued
+      let found = show (question_in x target) valid closed w.start trace.heap.is trace.heap.two_valued
       (trace.heap.over ∙ sym (arities-same x.walker.ordered.program.now.vocab.preds), trace.heap.unmarked)
       (moves_of w) [] first trace.later shown.replay shown.accepted shown.small shown.node shown.aim
       in record {

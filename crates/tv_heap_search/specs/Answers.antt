@@ -1,5 +1,5 @@
 -- What a search answers.
-use Rattle.std.specs.Prelude.{ℕ, ◌≡◌, ◌<◌, ◌≤◌, Bool, true, false, List, [], ◌∷◌, length, map, Option, Some}
+use Rattle.std.specs.Prelude.{ℕ, ◌≡◌, ◌<◌, ◌≤◌, List, [], ◌∷◌, length, map, Option, Some}
 use Rattle.std.specs.Prelude.{None, All, ⊤}
 use Rattle.tv_model.specs.Heap.{Heap}
 use Rattle.tv_model.specs.Run.{Stage}
@@ -13,33 +13,32 @@ use Rattle.tv_two_valued.specs.TwoValued.{IsTwoValued, heap_of}
 use Rattle.tv_witness_laws.specs.Replays.{IsAcceptedReplay, IsSmallState, last_shown}
 use Rattle.tv_witness_laws.specs.Witness.{HasWitness, IsAimedAt, IsWitness, Question, with_cells}
 use Rattle.tv_heap_steps.specs.Settled.{AreAllSettled}
-use Rattle.tv_heap_search.specs.Visited.{IsAt, IsGoal, IsPassed}
-use Rattle.tv_heap_search.specs.Levels.{IsNearest}
-use Rattle.tv_heap_search.specs.Retraced.{heaps_of, moves_of}
+use Rattle.tv_heap_search.specs.Goals.{HasGoal}
+use Rattle.tv_heap_search.specs.Levels.{IsNearestVisit}
+use Rattle.tv_heap_search.specs.Retraced.{HasValuesFor, heaps_along, moves_of}
 use Rattle.tv_heap_search.specs.Quests.{question_in}
 use Rattle.tv_heap_search.specs.declared.quest.Quest.{Quest}
+use Rattle.tv_heap_search.specs.declared.quest.Target.{Target}
 use Rattle.tv_heap_search.specs.declared.fewest.Fewest.{Fewest}
 use Rattle.tv_heap_search.specs.declared.error.Unanswered.{Unanswered}
 use Rattle.tv_heap_search.specs.declared.error.Unanswered.TheVariants.{Free, TooMany, Memory}
+use Rattle.tv_eval.specs.ScratchForm.{ScratchForm}
+use Rattle.tv_heap_search.specs.Visited.{IsVisitSearch}
 use Rattle.tv_heap_search.specs.declared.visits.Visit.{Visit}
+use Rattle.tv_heap_search.specs.declared.visits.Visits.{Visits}
 use Rattle.tv_heap_search.specs.declared.witness.Witness.{Witness}
 
--- ---- one place after the other
-
--- what was met at the place is a goal; else it is passed
-abbrev pub AnswersHere : Quest → List Visit → (place : ℕ) → Bool → Type 0
-AnswersHere x list place true = (v : Visit) × IsAt list place v × IsGoal x v
-AnswersHere x list place false = (v : Visit) × IsAt list place v × IsPassed x list v
-
--- a goal stands before `to`; where none does from `from` on, all these are passed
-abbrev pub AnswersLevel : Quest → (from to : ℕ) → List Visit → Option ℕ → Type 0
-AnswersLevel x from to list (Some place) = (place < to) × AnswersHere x list place true
-AnswersLevel x from to list None = (place : ℕ) → from ≤ place → place < to → AnswersHere x list place false
-
 -- a nearest goal stands at the place; where there is none, there is no witness
-abbrev pub AnswersSearch : Quest → List Visit → Option ℕ → Type 0
-AnswersSearch x list (Some place) = AnswersHere x list place true × IsNearest x list place
-AnswersSearch x list None = ¬ HasWitness (question_in x)
+abbrev pub AnswersTarget : Quest → Target → List Visit → Option ℕ → Type 0
+AnswersTarget x target list (Some place) = HasGoal target list place × IsNearestVisit x target list place
+AnswersTarget x target list None = ¬ HasWitness (question_in x target)
+
+-- so it does, in a search that went on; the room is as it was
+pub record HasSearched (x : Quest) (target : Target) (old_room new_room : ScratchForm) (s : Visits)
+    (place : Option ℕ) : Type 0 where
+  pub kept : IsVisitSearch x s
+  pub answer : AnswersTarget x target s.list.items place
+  pub same : new_room ≡ old_room
 
 -- ---- the witness
 
@@ -59,7 +58,8 @@ pub record IsShown (q : Question) (w : Witness) (first : State) (later : List St
   pub above : ListedCover
   pub begins : first.initial ≡ Some above
   pub number : w.initial ≡ above.structure
-  pub heaps : heaps_of w.track ≡ map (λ (z : State). z.heap) later
+  pub heaps : heaps_along w.track ≡ map (λ (z : State). z.heap) later
+  pub values : All (HasValuesFor q.program) (moves_of w.track)
   pub accepted : IsAcceptedReplay q.mode first later
   pub small : All (IsSmallState q.cells) (first ∷ later)
   pub node : (last_shown first later).node ≡ q.node
@@ -98,7 +98,14 @@ AnswersFewest q None = ¬ HasWitness q
 
 -- why there is no answer: an action leaves a predicate free; the search with so many cells has none, and no
 -- witness has fewer; or memory ran out
-abbrev pub IsCauseOfNone : Question → Unanswered → Type 0
-IsCauseOfNone q Free = ¬ AreAllSettled q.program.actions
-IsCauseOfNone q (TooMany cells) = (cells ≤ q.cells) × HasNoSmaller q cells
-IsCauseOfNone q Memory = ⊤
+abbrev pub IsCauseUnanswered : Question → Unanswered → Type 0
+IsCauseUnanswered q Free = ¬ AreAllSettled q.program.actions
+IsCauseUnanswered q (TooMany cells) = (cells ≤ q.cells) × HasNoSmaller q cells
+IsCauseUnanswered q Memory = ⊤
+
+-- the same where heaps of fewer than so many cells were gone through
+abbrev pub AnswersBelow : Question → (through : ℕ) → Option Fewest → Type 0
+AnswersBelow q through (Some found) =
+    (found.cells < through) × IsShortestWitness (with_cells q found.cells) found.witness
+    × HasNoSmaller q found.cells
+AnswersBelow q through None = HasNoSmaller q through

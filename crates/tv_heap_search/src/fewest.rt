@@ -1,15 +1,13 @@
 //! A witness of as few cells as any.
 
-ghost use Rattle.std.specs.Prelude.{◌≡◌, ◌<◌, ◌^◌, All, IfErr, IfOk, length};
-ghost use Rattle.tv_heap_search.specs.Answers.{AnswersFewest, IsCauseOfNone};
-ghost use Rattle.tv_heap_search.specs.Quests.{IsGoalOver, question_of};
+ghost use Rattle.std.specs.Prelude.{◌≡◌, IfErr, IfOk};
+ghost use Rattle.tv_heap_search.specs.Answers.{AnswersFewest, IsCauseUnanswered};
+ghost use Rattle.tv_heap_search.specs.Quests.{IsGoalOver, IsRequest, question_of};
 ghost use Rattle.tv_heap_steps.specs.Settled.{AreAllSettled};
 ghost use Rattle.tv_model.specs.Program.{program_of};
-ghost use Rattle.tv_model.specs.Valid.{IsValid};
-ghost use Rattle.tv_structure_form.specs.StructureForm.{IsOver};
 
 use crate::error::{SearchError, Unanswered};
-use crate::quest::{Goal, Request};
+use crate::quest::{Request, Target};
 use crate::witness::{Witness, shortest_witness};
 use tv_heap_steps::are_all_settled;
 
@@ -21,7 +19,7 @@ pub struct Fewest {
 }
 
 /// The request with so many cells.
-fn with_cells<'a>(x: &Request<'a>, cells: u32) -> Request<'a>
+pub(crate) fn with_cells<'a>(x: &Request<'a>, cells: u32) -> Request<'a>
     ensures { result ≡ record x.now { cells = cells } }
 {
     Request {
@@ -29,7 +27,6 @@ fn with_cells<'a>(x: &Request<'a>, cells: u32) -> Request<'a>
         program: x.program,
         initial: x.initial,
         mode: x.mode,
-        node: x.node,
         cells,
         most: x.most,
     }
@@ -44,22 +41,19 @@ fn with_cells<'a>(x: &Request<'a>, cells: u32) -> Request<'a>
 /// ran out.
 pub fn witness_of_fewest_cells(
     x: &Request<'_>,
-    goal: &Goal<'_>,
+    target: &Target<'_>,
 ) -> Result<Option<Fewest>, Unanswered>
-    requires valid { IsValid (program_of x.now.program.now) }
-    requires initial { All (IsOver x.now.program.now.vocab) x.now.initial.now }
-    requires few { length x.now.initial.now < 2 ^ 32 }
-    requires goal { IsGoalOver x.now.program.now goal.now }
-    requires cells { x.now.cells < 256 }
-    ensures answer { IfOk result (AnswersFewest (question_of x.now goal.now)) }
+    requires request { IsRequest x.now }
+    requires goal { IsGoalOver x.now.program.now target.now.goal }
+    ensures answer { IfOk result (AnswersFewest (question_of x.now target.now)) }
     ensures settled { IfOk result (λ found. AreAllSettled (program_of x.now.program.now).actions) }
-    ensures cause { IfErr result (IsCauseOfNone (question_of x.now goal.now)) }
+    ensures cause { IfErr result (IsCauseUnanswered (question_of x.now target.now)) }
 {
     if !are_all_settled(x.program.actions.as_slice()) {
         return Err(Unanswered::Free);
     }
     for cells in 0..x.cells + 1 {
-        match shortest_witness(&with_cells(x, cells), goal) {
+        match shortest_witness(&with_cells(x, cells), target) {
             Ok(None) => {}
             Ok(Some(witness)) => return Ok(Some(Fewest { cells, witness })),
             Err(SearchError::TooMany) => return Err(Unanswered::TooMany(cells)),

@@ -1,14 +1,15 @@
 //! What was met is followed.
 
-ghost use Rattle.std.specs.Prelude.{◌≡◌, ◌<◌, IfOk, OnOk, length};
-ghost use Rattle.tv_heap_search.specs.Answers.{AnswersHere};
-ghost use Rattle.tv_heap_search.specs.Quests.{IsReadyQuest};
-ghost use Rattle.tv_heap_search.specs.Visited.{AreLedMet, Grows, IsFrom, IsSearch, IsFollowedFrom, LeaveFrom};
+ghost use Rattle.std.specs.Prelude.{◌<◌, ◌≤◌, OnOk, length};
+ghost use Rattle.tv_heap_search.specs.Visited.{AreLedMet, ArePlacesFollowed, IsPlaceFollowed};
+ghost use Rattle.tv_heap_search.specs.Visited.{IsPlaceFollowedAlong};
+ghost use Rattle.tv_heap_search.specs.Visited.{IsUnderWaySearch, IsVisitFrom, IsVisitFromBelow};
+ghost use Rattle.tv_heap_search.specs.Visited.{IsVisitSearch};
+ghost use Rattle.tv_heap_search.specs.Visited.{LeaveFrom, SearchesOn};
 ghost use Rattle.tv_heap_steps.specs.Steps.{program_in};
 ghost use Rattle.tv_model.specs.Valid.{IsValid};
 
 use crate::error::SearchError;
-use crate::goal::is_goal;
 use crate::quest::Quest;
 use crate::visits::{Origin, Visit, Visits};
 use tv_eval::Scratch;
@@ -23,7 +24,7 @@ fn meet_all(
 ) -> Result<(), SearchError>
     requires valid { IsValid (program_in x.now.walker) }
     requires place { before < length visits.old.list.items }
-    requires kept { IsSearch x.now visits.old }
+    requires kept { IsVisitSearch x.now visits.old }
     requires steps { LeaveFrom x.now visits.old.list.items before all.items }
     ensures met { OnOk result (AreLedMet x.now before all.items visits.old visits.new) }
 {
@@ -47,14 +48,12 @@ fn follow_along(
     scratch: &mut Scratch,
     visits: &mut Visits,
 ) -> Result<(), SearchError>
-    requires ready { IsReadyQuest x.now scratch.old }
+    requires under_way { IsUnderWaySearch x.now scratch.old visits.old }
     requires place { place < length visits.old.list.items }
     requires edge { edge < length x.now.walker.ordered.program.now.edges }
-    requires kept { IsSearch x.now visits.old }
-    ensures kept { OnOk result (IsSearch x.now visits.new) }
-    ensures grows { OnOk result (Grows (IsFrom place) visits.old visits.new) }
-    ensures followed { OnOk result (IsFollowedFrom x.now visits.new.list.items place edge) }
-    ensures scratch { scratch.new ≡ scratch.old }
+    ensures on { OnOk result
+        (SearchesOn (IsVisitFrom place) x.now scratch.old scratch.new visits.old visits.new) }
+    ensures followed { OnOk result (IsPlaceFollowedAlong x.now visits.new.list.items place edge) }
 {
     let visit = &visits.list[place];
     if x.walker.ordered.program.edges.as_slice()[edge as usize].from != visit.node {
@@ -65,26 +64,41 @@ fn follow_along(
     Ok(())
 }
 
-/// Tells whether a goal was met at the place; where none was, it is followed along each edge.
-pub(crate) fn follow(
+/// Follows what was met at the place along each edge.
+fn follow(
     x: &Quest<'_>,
     place: usize,
     scratch: &mut Scratch,
     visits: &mut Visits,
-) -> Result<bool, SearchError>
-    requires ready { IsReadyQuest x.now scratch.old }
+) -> Result<(), SearchError>
+    requires under_way { IsUnderWaySearch x.now scratch.old visits.old }
     requires place { place < length visits.old.list.items }
-    requires kept { IsSearch x.now visits.old }
-    ensures kept { OnOk result (IsSearch x.now visits.new) }
-    ensures grows { OnOk result (Grows (IsFrom place) visits.old visits.new) }
-    ensures answer { IfOk result (AnswersHere x.now visits.new.list.items place) }
-    ensures scratch { scratch.new ≡ scratch.old }
+    ensures on { OnOk result
+        (SearchesOn (IsVisitFrom place) x.now scratch.old scratch.new visits.old visits.new) }
+    ensures followed { OnOk result (IsPlaceFollowed x.now visits.new.list.items place) }
 {
-    if is_goal(x, &visits.list[place], scratch)? {
-        return Ok(true);
-    }
     for edge in 0..x.walker.ordered.program.edges.len() as u32 {
         follow_along(x, place, edge, scratch, visits)?;
     }
-    Ok(false)
+    Ok(())
+}
+
+/// Follows what was met at the places from `from` on and before `to`, along each edge.
+pub(crate) fn follow_level(
+    x: &Quest<'_>,
+    from: usize,
+    to: usize,
+    scratch: &mut Scratch,
+    visits: &mut Visits,
+) -> Result<(), SearchError>
+    requires under_way { IsUnderWaySearch x.now scratch.old visits.old }
+    requires to { to ≤ length visits.old.list.items }
+    ensures on { OnOk result
+        (SearchesOn (IsVisitFromBelow to) x.now scratch.old scratch.new visits.old visits.new) }
+    ensures followed { OnOk result (ArePlacesFollowed x.now visits.new.list.items from to) }
+{
+    for place in from..to {
+        follow(x, place, scratch, visits)?;
+    }
+    Ok(())
 }

@@ -1,18 +1,18 @@
 //! Whether a heap is as it is asked for.
 
-ghost use Rattle.std.specs.Prelude.{◌≡◌, ◌↔◌, IfOk, IsTrue};
+ghost use Rattle.std.specs.Prelude.{◌≡◌, ◌<◌, ◌↔◌, IfOk, IsTrue};
 ghost use Rattle.tv_eval.specs.AssignmentForm.{assignment_of};
 ghost use Rattle.tv_eval.specs.Formulas.{AreAssigned};
-ghost use Rattle.tv_heap_search.specs.Quests.{CanAsk, CanTell, IsReadyQuest, aim_of};
-ghost use Rattle.tv_heap_search.specs.Visited.{IsGoal};
-ghost use Rattle.tv_heap_steps.specs.Steps.{IsSmallHeap};
+ghost use Rattle.tv_heap_search.specs.Goals.{CanAskGoal, CanTellIn, IsVisitAimedAt, IsFirstGoalFrom};
+ghost use Rattle.tv_heap_search.specs.Goals.{AreAllHeaps};
+ghost use Rattle.tv_heap_search.specs.Quests.{IsGoalOver, IsReadyQuest, aim_of_goal};
 ghost use Rattle.tv_model.specs.Form.{form_of};
 ghost use Rattle.tv_model.specs.Rules.{blank};
 ghost use Rattle.tv_model.specs.Truth.{Truth};
 ghost use Rattle.tv_two_valued.specs.TwoValued.{heap_of};
 ghost use Rattle.tv_witness_laws.specs.Witness.{IsAimedAt};
 
-use crate::quest::{Goal, Quest};
+use crate::quest::{Goal, Quest, Target};
 use crate::visits::Visit;
 use std::alloc::{AllocError, Global};
 use tv_eval::{Assignment, Evaluator, Scratch};
@@ -21,10 +21,10 @@ use tv_model::Formula;
 use tv_struct::Structure;
 use tv_two_valued::holds;
 
-/// Whether the condition is true under the assignment in the heap that `s` stands for. The scratch is given back
-/// as it was.
+/// Whether the condition is true under the assignment in the heap that `s` stands for. The scratch is given
+/// back as it was.
 fn is_true(cond: &Formula, s: &Structure, a: &Assignment, scratch: &mut Scratch) -> bool
-    requires can { CanTell s.now scratch.old (form_of cond.now) }
+    requires can { CanTellIn s.now scratch.old (form_of cond.now) }
     requires assigned { AreAssigned s.now.size a.now (form_of cond.now) }
     ensures truth { IsTrue result ↔ Truth (heap_of s.now) (assignment_of a.now) (form_of cond.now) }
     ensures scratch { scratch.new ≡ scratch.old }
@@ -37,7 +37,7 @@ fn is_true(cond: &Formula, s: &Structure, a: &Assignment, scratch: &mut Scratch)
 
 /// Whether the condition is true in the heap that `s` stands for. The scratch is given back as it was.
 fn makes(cond: &Formula, s: &Structure, scratch: &mut Scratch) -> bool
-    requires can { CanTell s.now scratch.old (form_of cond.now) }
+    requires can { CanTellIn s.now scratch.old (form_of cond.now) }
     ensures truth { IsTrue result ↔ Truth (heap_of s.now) blank (form_of cond.now) }
     ensures scratch { scratch.new ≡ scratch.old }
 {
@@ -52,8 +52,8 @@ fn is_aimed_at(
     s: &Structure,
     scratch: &mut Scratch,
 ) -> Result<bool, AllocError>
-    requires can { CanAsk goal.now s.now scratch.old }
-    ensures aimed { IfOk result (λ is. IsTrue is ↔ IsAimedAt (aim_of goal.now) (heap_of s.now)) }
+    requires can { CanAskGoal goal.now s.now scratch.old }
+    ensures aimed { IfOk result (λ is. IsTrue is ↔ IsAimedAt (aim_of_goal goal.now) (heap_of s.now)) }
     ensures scratch { scratch.new ≡ scratch.old }
 {
     match *goal {
@@ -62,19 +62,42 @@ fn is_aimed_at(
     }
 }
 
-/// Whether what was met is a goal. The scratch is given back as it was.
-pub(crate) fn is_goal(
-    x: &Quest<'_>,
+/// Whether what was met is as it is asked for. The scratch is given back as it was.
+fn is_goal(
+    alloc: Global,
+    target: &Target<'_>,
     visit: &Visit,
     scratch: &mut Scratch,
 ) -> Result<bool, AllocError>
-    requires ready { IsReadyQuest x.now scratch.old }
-    requires heap { IsSmallHeap x.now.walker visit.now.heap }
-    ensures goal { IfOk result (λ is. IsTrue is ↔ IsGoal x.now visit.now) }
-    ensures scratch { scratch.new ≡ scratch.old }
+    requires can { CanAskGoal target.now.goal visit.now.heap scratch.old }
+    ensures goal { IfOk result (λ is. IsTrue is ↔ IsVisitAimedAt target.now visit.now) }
+    ensures same { scratch.new ≡ scratch.old }
 {
-    if visit.node != x.node {
+    if visit.node != target.node {
         return Ok(false);
     }
-    is_aimed_at(x.walker.ordered.alloc, &x.goal, &visit.heap, scratch)
+    is_aimed_at(alloc, &target.goal, &visit.heap, scratch)
+}
+
+/// The first place from `from` on at which a heap was met as it is asked for, if there is one. The scratch is
+/// given back as it was.
+pub(crate) fn first_goal(
+    x: &Quest<'_>,
+    target: &Target<'_>,
+    list: &[Visit],
+    from: usize,
+    scratch: &mut Scratch,
+) -> Result<Option<usize>, AllocError>
+    requires ready { IsReadyQuest x.now scratch.old }
+    requires over { IsGoalOver x.now.walker.ordered.program.now target.now.goal }
+    requires heaps { AreAllHeaps x.now.walker list.now }
+    ensures first { IfOk result (IsFirstGoalFrom target.now list.now from) }
+    ensures room { scratch.new ≡ scratch.old }
+{
+    for place in from..list.len() {
+        if is_goal(x.walker.ordered.alloc, target, &list[place], scratch)? {
+            return Ok(Some(place));
+        }
+    }
+    Ok(None)
 }

@@ -15,28 +15,32 @@ pub enum Goal<'a> {
     LiesIn(&'a Structure),
 }
 
-/// A program and a mode, the initial structures, the node at which a run shall end, how many individuals a
-/// heap may have, and how many heaps may be met.
+/// Where a run shall end, and in what heap.
+#[derive(Clone, Copy)]
+pub struct Target<'a> {
+    pub node: u32,
+    pub goal: Goal<'a>,
+}
+
+/// A program and a mode, the initial structures, how many individuals a heap may have, and how many heaps may
+/// be met.
 #[derive(Clone, Copy)]
 pub struct Request<'a> {
     pub alloc: Global,
     pub program: &'a Program,
     pub initial: &'a Structures,
     pub mode: Mode,
-    pub node: u32,
     /// At most 255.
     pub cells: u32,
     pub most: u64,
 }
 
-/// What a search is made by: how steps are made, the closed rules, the initial structures, how many heaps may
-/// be met, and where the run shall end in what heap.
+/// What a search is made by: how steps are made, the closed rules, the initial structures, and how many heaps
+/// may be met.
 #[derive(Clone, Copy)]
 pub(crate) struct Quest<'a> {
     pub walker: Walker<'a>,
     pub closed: &'a Closed,
     pub initial: &'a Structures,
     pub most: u64,
-    pub node: u32,
-    pub goal: Goal<'a>,
 }

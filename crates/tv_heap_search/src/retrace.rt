@@ -2,7 +2,7 @@
 
 ghost use Rattle.std.specs.Prelude.{◌≡◌, ◌<◌, IfOk, length};
 ghost use Rattle.tv_heap_search.specs.Retraced.{IsTraceTo};
-ghost use Rattle.tv_heap_search.specs.Visited.{IsSearch};
+ghost use Rattle.tv_heap_search.specs.Visited.{IsVisitSearch};
 
 use crate::quest::Quest;
 use crate::visits::{Origin, Visits};
@@ -44,7 +44,7 @@ fn copied(alloc: Global, step: &Move) -> Result<Move, AllocError>
 
 /// The run that led to what was met at the place. The only error is lack of memory.
 pub(crate) fn retrace(x: &Quest<'_>, visits: &Visits, place: usize) -> Result<Track, AllocError>
-    requires kept { IsSearch x.now visits.now }
+    requires kept { IsVisitSearch x.now visits.now }
     requires place { place < length visits.now.list.items }
     ensures { IfOk result (IsTraceTo x.now visits.now.list.items place) }
 {

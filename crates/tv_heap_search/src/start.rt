@@ -3,7 +3,8 @@
 ghost use Rattle.std.specs.Prelude.{ℕ, ◌≡◌, All, Contains, IfOk, OnOk, slice_get, Some};
 ghost use Rattle.tv_heaps.specs.Heaps.{AreHeapsIn, IsHeapIn};
 ghost use Rattle.tv_heap_search.specs.Quests.{IsReadyQuest};
-ghost use Rattle.tv_heap_search.specs.Visited.{AreFirstMet, AreMetOf, Grows, IsSearch, IsFirst};
+ghost use Rattle.tv_heap_search.specs.Visited.{AreFirstMet, AreMetOf, IsStartVisit, IsUnderWaySearch};
+ghost use Rattle.tv_heap_search.specs.Visited.{IsVisitSearch, SearchesOn};
 ghost use Rattle.tv_heap_steps.specs.Steps.{program_in};
 ghost use Rattle.tv_model.specs.Valid.{IsValid};
 ghost use Rattle.tv_structure_form.specs.StructureForm.{StructureForm};
@@ -45,7 +46,7 @@ fn meet_starts(
     requires valid { IsValid (program_in x.now.walker) }
     requires initial { Contains x.now.initial.now s.now }
     requires heaps { All (IsHeapIn (program_in x.now.walker) x.now.walker.cells s.now) heaps }
-    requires kept { IsSearch x.now visits.old }
+    requires kept { IsVisitSearch x.now visits.old }
     ensures met { OnOk result (AreFirstMet x.now heaps visits.old visits.new) }
 {
     for heap in heaps.into_vec() {
@@ -66,13 +67,10 @@ fn start(
     scratch: &mut Scratch,
     visits: &mut Visits,
 ) -> Result<(), SearchError>
-    requires ready { IsReadyQuest x.now scratch.old }
+    requires under_way { IsUnderWaySearch x.now scratch.old visits.old }
     requires initial { Contains x.now.initial.now s.now }
-    requires kept { IsSearch x.now visits.old }
-    ensures kept { OnOk result (IsSearch x.now visits.new) }
-    ensures grows { OnOk result (Grows IsFirst visits.old visits.new) }
+    ensures on { OnOk result (SearchesOn IsStartVisit x.now scratch.old scratch.new visits.old visits.new) }
     ensures met { OnOk result (AreMetOf x.now visits.new.list.items s.now) }
-    ensures scratch { scratch.new ≡ scratch.old }
 {
     let heaps = heaps_of(x, s, scratch)?;
     meet_starts(x, s, heaps, visits)?;
@@ -85,13 +83,10 @@ pub(crate) fn start_all(
     scratch: &mut Scratch,
     visits: &mut Visits,
 ) -> Result<(), SearchError>
-    requires ready { IsReadyQuest x.now scratch.old }
-    requires kept { IsSearch x.now visits.old }
-    ensures kept { OnOk result (IsSearch x.now visits.new) }
-    ensures grows { OnOk result (Grows IsFirst visits.old visits.new) }
+    requires under_way { IsUnderWaySearch x.now scratch.old visits.old }
+    ensures on { OnOk result (SearchesOn IsStartVisit x.now scratch.old scratch.new visits.old visits.new) }
     ensures met { OnOk result ((place : ℕ) → (s : StructureForm) → slice_get x.now.initial.now place ≡ Some s
         → AreMetOf x.now visits.new.list.items s) }
-    ensures scratch { scratch.new ≡ scratch.old }
 {
     for s in x.initial.as_slice() {
         start(x, s, scratch, visits)?;

@@ -1,7 +1,7 @@
 //! The heaps that a search has met.
 
 ghost use Rattle.std.specs.Prelude.{◌≡◌, ◌<◌, ◌≤◌, [], IfOk, None, OnOk, length, replicate};
-ghost use Rattle.tv_heap_search.specs.Visited.{AreKnown, Grows, places_of};
+ghost use Rattle.tv_heap_search.specs.Visited.{AreSeenMet, MeetsMore, visit_places};
 ghost use Rattle.tv_two_valued.specs.TwoValued.{heap_of};
 ghost use Rattle.tv_witness_laws.specs.Search.{HasMet};
 
@@ -51,11 +51,12 @@ impl Visits {
     pub fn meet(&mut self, alloc: Global, visit: Visit, most: u64) -> Result<(), SearchError>
         requires node { visit.node < length self.old.seen }
         requires unmarked { visit.heap.fresh ≡ None }
-        requires known { AreKnown self.old.seen self.old.list.items }
+        requires known { AreSeenMet self.old.seen self.old.list.items }
         requires within { length self.old.list.items ≤ most }
-        ensures grows { OnOk result (Grows (λ v. v ≡ visit) self.old self.new) }
-        ensures has { OnOk result (HasMet (places_of self.new.list.items) visit.node (heap_of visit.heap)) }
-        ensures known { OnOk result (AreKnown self.new.seen self.new.list.items) }
+        ensures grows { OnOk result (MeetsMore (λ v. v ≡ visit) self.old self.new) }
+        ensures has { OnOk result
+            (HasMet (visit_places self.new.list.items) visit.node (heap_of visit.heap)) }
+        ensures known { OnOk result (AreSeenMet self.new.seen self.new.list.items) }
         ensures within { OnOk result (length self.new.list.items ≤ most) }
     {
         let copy = visit.heap.copy(alloc)?;

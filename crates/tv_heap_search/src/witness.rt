@@ -1,29 +1,29 @@
 //! A shortest witness.
 
-ghost use Rattle.std.specs.Prelude.{◌≡◌, ◌<◌, ◌^◌, All, IfOk, length};
-ghost use Rattle.tv_heap_search.specs.Answers.{AnswersQuestion, IsNumberAbove};
-ghost use Rattle.tv_heap_search.specs.Quests.{IsGoalOver, IsReadyQuest, question_in, question_of};
+ghost use Rattle.std.specs.Prelude.{◌≡◌, ◌<◌, ◌^◌, All, IfOk, Some, length};
+ghost use Rattle.tv_heap_search.specs.Answers.{AnswersQuestion, AnswersTarget, IsNumberAbove};
+ghost use Rattle.tv_heap_search.specs.Answers.{IsShortestWitness};
+ghost use Rattle.tv_heap_search.specs.Levels.{IsBegun};
+ghost use Rattle.tv_heap_search.specs.Quests.{CanFind, IsGoalOver, IsReadyQuest, IsRequest, question_in};
+ghost use Rattle.tv_heap_search.specs.Quests.{question_of};
+ghost use Rattle.tv_heap_search.specs.Traces.{CanTrace};
 ghost use Rattle.tv_heap_steps.specs.Settled.{AreAllSettled};
 ghost use Rattle.tv_model.specs.Program.{program_of};
-ghost use Rattle.tv_model.specs.Valid.{IsValid};
 ghost use Rattle.tv_step_laws.specs.Sound.{IsHeapOfSome};
-ghost use Rattle.tv_structure_form.specs.StructureForm.{IsOver, IsStructure, arities_of};
+ghost use Rattle.tv_structure_form.specs.StructureForm.{IsStructure, arities_of};
 ghost use Rattle.tv_two_valued.specs.TwoValued.{IsTwoValued, heap_of};
 
 use crate::error::SearchError;
 use crate::find::find;
-use crate::quest::{Goal, Quest, Request};
+use crate::prepared::{Prepared, prepare, quest_by, scratch_for};
+use crate::quest::{Quest, Request, Target};
 use crate::retrace::{Track, retrace};
 use crate::start::start_all;
 use crate::visits::Visits;
 use std::alloc::{AllocError, Global};
 use tv_eval::Scratch;
-use tv_heap_steps::Walker;
-use tv_replay_judge::{first_above, property_rules};
-use tv_replay_step::Ordered;
-use tv_rules::close_rules;
+use tv_replay_judge::first_above;
 use tv_struct::{Structure, Table};
-use tv_update::order_of;
 use tv_witness_laws::replays_show_witnesses;
 
 /// A run of heaps of few cells to a goal, and the number of the first initial structure to which its start
@@ -33,9 +33,6 @@ pub struct Witness {
     pub initial: u32,
     pub track: Track,
 }
-
-/// The most individuals of a structure.
-const MAX_INDIVIDUALS: u32 = 256;
 
 /// The number of the first of the structures in which the heap that `s` stands for embeds.
 fn number_above(alloc: Global, s: &Structure, structures: &[Structure]) -> Result<u32, AllocError>
@@ -51,62 +48,67 @@ fn number_above(alloc: Global, s: &Structure, structures: &[Structure]) -> Resul
     }
 }
 
-/// A witness with as few steps as any, if there is one.
-fn search(x: &Quest<'_>, scratch: &mut Scratch) -> Result<Option<Witness>, SearchError>
+/// What was met of start heaps, which is all that is met in no step.
+pub(crate) fn started(x: &Quest<'_>, scratch: &mut Scratch) -> Result<Visits, SearchError>
     requires ready { IsReadyQuest x.now scratch.old }
-    requires few { length x.now.initial.now < 2 ^ 32 }
-    ensures answer { IfOk result (AnswersQuestion (question_in x.now)) }
-    ensures scratch { scratch.new ≡ scratch.old }
+    ensures { IfOk result (IsBegun x.now scratch.old scratch.new) }
 {
-    replays_show_witnesses();
     let alloc = x.walker.ordered.alloc;
     let mut visits = Visits::new(alloc, x.walker.ordered.program.nodes.len() as u32)?;
     start_all(x, scratch, &mut visits)?;
-    let Some(place) = find(x, scratch, &mut visits)? else {
-        return Ok(None);
-    };
-    let track = retrace(x, &visits, place)?;
-    let initial = number_above(alloc, &track.start, x.initial.as_slice())?;
-    Ok(Some(Witness { initial, track }))
+    Ok(visits)
 }
 
-/// A run of heaps of few cells to the goal with as few steps as any; none where no such run leads there. A
+/// The witness that leads to the place, which is that of a nearest goal.
+pub(crate) fn witness_to(
+    x: &Quest<'_>,
+    target: &Target<'_>,
+    visits: &Visits,
+    place: usize,
+) -> Result<Witness, AllocError>
+    requires ready { CanTrace x.now target.now visits.now }
+    requires place { AnswersTarget x.now target.now visits.now.list.items (Some place) }
+    ensures shortest { IfOk result (IsShortestWitness (question_in x.now target.now)) }
+{
+    replays_show_witnesses();
+    let track = retrace(x, visits, place)?;
+    let alloc = x.walker.ordered.alloc;
+    let initial = number_above(alloc, &track.start, x.initial.as_slice())?;
+    Ok(Witness { initial, track })
+}
+
+/// A witness with as few steps as any, if there is one.
+fn search(
+    x: &Quest<'_>,
+    target: &Target<'_>,
+    scratch: &mut Scratch,
+) -> Result<Option<Witness>, SearchError>
+    requires ready { CanFind x.now target.now scratch.old }
+    ensures { IfOk result (AnswersQuestion (question_in x.now target.now)) }
+{
+    let mut visits = started(x, scratch)?;
+    match find(x, target, scratch, &mut visits)? {
+        None => Ok(None),
+        Some(place) => Ok(Some(witness_to(x, target, &visits, place)?)),
+    }
+}
+
+/// A run of heaps of few cells to the target with as few steps as any; none where no such run leads there. A
 /// witness that is given is one by the definition of runs, and its start heap and moves can be replayed.
 ///
 /// # Errors
 /// `TooMany` where more heaps were met, or more structures had to be split, than are allowed. Or memory ran
 /// out.
-pub fn shortest_witness(x: &Request<'_>, goal: &Goal<'_>) -> Result<Option<Witness>, SearchError>
-    requires valid { IsValid (program_of x.now.program.now) }
+pub fn shortest_witness(
+    x: &Request<'_>,
+    target: &Target<'_>,
+) -> Result<Option<Witness>, SearchError>
+    requires request { IsRequest x.now }
     requires settled { AreAllSettled (program_of x.now.program.now).actions }
-    requires initial { All (IsOver x.now.program.now.vocab) x.now.initial.now }
-    requires few { length x.now.initial.now < 2 ^ 32 }
-    requires goal { IsGoalOver x.now.program.now goal.now }
-    requires cells { x.now.cells < 256 }
-    ensures answer { IfOk result (AnswersQuestion (question_of x.now goal.now)) }
+    requires goal { IsGoalOver x.now.program.now target.now.goal }
+    ensures answer { IfOk result (AnswersQuestion (question_of x.now target.now)) }
 {
-    let closed = close_rules(x.alloc, x.program)?;
-    let properties = property_rules(x.alloc, x.program.vocab.preds.as_slice())?;
-    let order = order_of(x.alloc, x.program)?;
-    let mut scratch = Scratch::new(x.alloc, x.program, MAX_INDIVIDUALS)?;
-    let ordered = Ordered {
-        alloc: x.alloc,
-        program: x.program,
-        order: &order,
-    };
-    let walker = Walker {
-        ordered,
-        properties: &properties,
-        mode: x.mode,
-        cells: x.cells,
-    };
-    let quest = Quest {
-        walker,
-        closed: &closed,
-        initial: x.initial,
-        most: x.most,
-        node: x.node,
-        goal: *goal,
-    };
-    search(&quest, &mut scratch)
+    let prepared = prepare(x)?;
+    let mut scratch = scratch_for(x)?;
+    search(&quest_by(x, &prepared), target, &mut scratch)
 }

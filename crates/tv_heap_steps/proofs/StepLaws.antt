@@ -238,7 +238,14 @@ module _ (walker : Walker) (room : ScratchForm) (ready : IsReadyToWalk walker ro
         → IsAcceptedMove (program_in walker) walker.mode walker.cells x → IsStepBy walker edge s chosen (Some led)
     step_made led is accepted =
         subst (λ (y : Led). IsStepBy walker edge s chosen (Some y)) (sym is) (
-          record { taken = taken; its_edge = its_edge; is_edge = by.edge_is; moved = made; accepted = accepted },
+          record {
+            taken = taken;
+            its_edge = its_edge;
+            is_edge = by.edge_is;
+            values = by.values_are;
+            moved = made;
+            accepted = accepted;
+          },
           λ named to. (leads walker edge s small chosen move by named to ready.valid everywhere taken.from x made).copy,
         )
 

@@ -65,6 +65,7 @@ pub record IsSmallStep (walker : Walker) (edge : ℕ) (s : StructureForm) (led :
   pub taken : Edge
   pub its_edge : slice_get (program_in walker).edges edge ≡ Some taken
   pub is_edge : led.step.edge ≡ edge
+  pub values : led.step.values ≡ None
   pub moved : IsMoved (program_in walker) led.step (record { node = taken.from; heap = s }) led.moved
   pub accepted : IsAcceptedMove (program_in walker) walker.mode walker.cells led.moved
 

@@ -1,13 +1,15 @@
 use Rattle.std.proofs.Common.{ℕ, ◌≡◌, ◌≤◌, ◌-◌, length}
-use Rattle.tv_heap_search.specs.Levels.{IsLevel}
-use Rattle.tv_heap_search.specs.Visited.{IsSearch}
+use Rattle.tv_heap_search.specs.Goals.{HasNoGoal}
+use Rattle.tv_heap_search.specs.Levels.{IsHeapLevel}
+use Rattle.tv_heap_search.specs.Visited.{IsVisitSearch}
 use Rattle.tv_heap_search.proofs.find.find.Given as goal
 
 abbrev pub invariant-loop-from : goal.invariant-loop-from
 invariant-loop-from l = record {
-  kept : IsSearch l.x l.visits;
+  kept : IsVisitSearch l.x l.visits;
   within : l.from ≤ length l.visits.list.items;
-  level : (depth : ℕ) × IsLevel l.x l.visits.list.items l.from depth;
+  level : (depth : ℕ) × IsHeapLevel l.x l.visits.list.items l.from depth;
+  none : HasNoGoal l.target l.visits.list.items 0 l.from;
   same : l.scratch ≡ l.initial.scratch;
 }
 
