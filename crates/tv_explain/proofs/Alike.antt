@@ -18,7 +18,7 @@ use Rattle.tv_explain.specs.declared.inputs.Drawn.{Drawn}
 use Rattle.tv_explain.specs.declared.inputs.Inputs.{Inputs}
 use Rattle.tv_explain_words.specs.Words.{AnalyzedForm, CommandForm, Shows, ListsEdges, TellsMessage}
 use Rattle.tv_explain_words.specs.Words.{TellsStructure, TellsLosses, Compiles, TakesStep, TellsPlan}
-use Rattle.tv_explain_words.specs.Words.{TellsCounts, Completes, TellsWitness}
+use Rattle.tv_explain_words.specs.Words.{TellsCounts, Completes, TellsWitness, TellsWitnesses}
 
 -- both say the same program, wherever its parts lie in memory, and the same initial structures
 pub record SameInputs (a b : Inputs) : Type 0 where
@@ -56,6 +56,7 @@ AreRead told (TellsPlan program mode delta) = (p : Program) × IsProgramFile tol
 AreRead told (TellsCounts of) = (inputs : Inputs) × FilesMean told of inputs
 AreRead told (Completes program structures) = AreReadTogether told program structures
 AreRead told (TellsWitness of aim bounds) = (inputs : Inputs) × FilesMean told of inputs
+AreRead told (TellsWitnesses of bounds) = (inputs : Inputs) × FilesMean told of inputs
 
 module _ (told : Option Held) where
   -- the program that was read, and what is taken of it
@@ -130,6 +131,7 @@ module _ (told : Option Held)
         initials structures h.0 refused.0 same (Ok h.2.0) (Err k) h.2.1 refused.2
     not_refused (Completes program structures) other k h refused = refused
     not_refused (TellsWitness of aim bounds) r k h refused = analysis_read of r k h.0 h.1 refused
+    not_refused (TellsWitnesses of bounds) r k h refused = analysis_read of r k h.0 h.1 refused
 
     one_analysis_refusal : (of : AnalyzedForm) (r s : Role) (k l : FileKind) → IsNoAnalysis told of r k
         → IsNoAnalysis told of s l → (r ≡ s) × (placeless k ≡ placeless l)
@@ -191,3 +193,4 @@ module _ (told : Option Held)
     one_refusal (Completes program structures) role.Initial other k l h j = absurd j
     one_refusal (Completes program structures) other s k l h j = absurd h
     one_refusal (TellsWitness of aim bounds) r s k l h j = one_analysis_refusal of r s k l h j
+    one_refusal (TellsWitnesses of bounds) r s k l h j = one_analysis_refusal of r s k l h j

@@ -83,7 +83,7 @@ use Rattle.tv_explain_words.specs.Words.{AnalyzedForm, CommandForm, Shows, Lists
 use Rattle.tv_explain_words.specs.Words.{TellsStructure, TellsLosses, Compiles, TakesStep, TellsPlan}
 use Rattle.tv_explain_words.specs.declared.words.Aim.{Aim}
 use Rattle.tv_explain_words.specs.declared.words.Piece.{Piece}
-use Rattle.tv_explain_words.specs.Words.{BoundsForm, TellsCounts, Completes, TellsWitness, Spells, SpellsNothing}
+use Rattle.tv_explain_words.specs.Words.{BoundsForm, TellsCounts, Completes, TellsWitness, TellsWitnesses, Spells, SpellsNothing}
 
 -- ---- views of endings
 
@@ -133,6 +133,7 @@ module _ (told : Option Held) where
   such_read (TakesStep of edge) P h = (h.0, h.1)
   such_read (TellsCounts of) P h = (h.0, h.1)
   such_read (TellsWitness of aim bounds) P h = (h.0, h.1)
+  such_read (TellsWitnesses of bounds) P h = (h.0, h.1)
   such_read other P h = absurd h
 
   such_also : (command : CommandForm) (P Q : AnalyzedForm → Inputs → Type 0)
@@ -144,6 +145,7 @@ module _ (told : Option Held) where
   such_also (TakesStep of edge) P Q f h = (h.0, h.1, f of h.0 h.2)
   such_also (TellsCounts of) P Q f h = (h.0, h.1, f of h.0 h.2)
   such_also (TellsWitness of aim bounds) P Q f h = (h.0, h.1, f of h.0 h.2)
+  such_also (TellsWitnesses of bounds) P Q f h = (h.0, h.1, f of h.0 h.2)
   such_also other P Q f h = absurd h
 
 -- structures that are read are those of the file
@@ -177,6 +179,7 @@ module _ (told : Option Held)
     answer_read (TellsCounts of) a h = (h.0.0, h.0.1)
     answer_read (Completes program structures) a h = structures_read told program structures _ h.0
     answer_read (TellsWitness of aim bounds) a h = (h.0, h.1)
+    answer_read (TellsWitnesses of bounds) a h = (h.0, h.1)
 
     done_read : (command : CommandForm) → CanAnswer told command → AreRead told command
     done_read (Shows program report) h = h
@@ -190,10 +193,12 @@ module _ (told : Option Held)
     done_read (TellsCounts of) h = (h.0, h.1)
     done_read (Completes program structures) h = h.0
     done_read (TellsWitness of aim bounds) h = (h.0, h.1)
+    done_read (TellsWitnesses of bounds) h = (h.0, h.1)
 
     some_read : (command : CommandForm) → LosesSome told command → AreRead told command
     some_read (TellsLosses of) h = (h.0, h.1)
     some_read (TellsWitness of aim bounds) h = (h.0, h.1)
+    some_read (TellsWitnesses of bounds) h = (h.0, h.1)
     some_read other h = absurd h
 
     absent_read : (command : CommandForm) (what : Sought) → IsAbsent told command what → AreRead told command
@@ -201,6 +206,7 @@ module _ (told : Option Held)
     absent_read (TellsStructure of node index) what h = (h.0, h.1)
     absent_read (TakesStep of edge) what h = (h.0, h.1)
     absent_read (TellsWitness of aim bounds) what h = (h.0, h.1)
+    absent_read (TellsWitnesses of bounds) what h = (h.0, h.1)
     absent_read other what h = absurd h
 
     unwritten_read : (command : CommandForm) (why : Unwritten) → IsUnwritten told command why

@@ -14,7 +14,7 @@ use Rattle.tv_explain.specs.declared.fault.Fault.TheVariants.{TooManyIndividuals
 use Rattle.tv_explain.specs.declared.fault.Fault.TheVariants.{Heaps, ReadFault, Memory}
 use Rattle.tv_explain_words.specs.Words.{AnalyzedForm, CommandForm, Shows, ListsEdges, TellsMessage}
 use Rattle.tv_explain_words.specs.Words.{TellsStructure, TellsLosses, Compiles, TakesStep, TellsPlan}
-use Rattle.tv_explain_words.specs.Words.{TellsCounts, Completes, TellsWitness, Spells}
+use Rattle.tv_explain_words.specs.Words.{TellsCounts, Completes, TellsWitness, TellsWitnesses, Spells}
 
 module _ (told : Option Held) where
   inputs_not_missing : (of : AnalyzedForm) → HoldsInputs told of → LacksInputs told of → ⊥
@@ -35,6 +35,7 @@ module _ (told : Option Held) where
   not_missing (Completes program structures) holds (inl lacks) = holds.0 lacks
   not_missing (Completes program structures) holds (inr later) = later.2 holds.1
   not_missing (TellsWitness of aim bounds) holds lacks = inputs_not_missing of holds lacks
+  not_missing (TellsWitnesses of bounds) holds lacks = inputs_not_missing of holds lacks
 
   -- no file is missing where all that the command asks for are there
   pub none_missing : ((words : List (List ℕ)) (a b : CommandForm) → Spells words a → Spells words b → a ≡ b)

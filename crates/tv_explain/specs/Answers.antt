@@ -49,7 +49,7 @@ use Rattle.tv_explain_text.specs.Texts.{edges_text, messages_at, shown_text}
 use Rattle.tv_explain_text.specs.Trails.{at_hand_line, raised_line, trail_text}
 use Rattle.tv_explain_words.specs.Words.{AnalyzedForm, CommandForm, Shows, ListsEdges, TellsMessage}
 use Rattle.tv_explain_words.specs.Words.{TellsStructure, TellsLosses, Compiles, TakesStep, TellsPlan}
-use Rattle.tv_explain_words.specs.Words.{BoundsForm, TellsCounts, Completes, TellsWitness}
+use Rattle.tv_explain_words.specs.Words.{BoundsForm, TellsCounts, Completes, TellsWitness, TellsWitnesses}
 use Rattle.tv_explain_words.specs.declared.words.Aim.{Aim}
 use Rattle.tv_heap_search.specs.declared.error.Unanswered.TheVariants.{TooMany}
 use Rattle.tv_heap_steps.specs.Settled.{AreAllSettled}
@@ -197,6 +197,7 @@ IsText told (TellsCounts of) text = (inputs : Inputs) × FilesMean told of input
 IsText told (Completes program structures) text = ReadsSuch told program structures
     (λ p read. IsCompletedText p read.bytes.items read.tokens.list.items read.structures text)
 IsText told (TellsWitness of aim bounds) text = ⊥
+IsText told (TellsWitnesses of bounds) text = ⊥
 
 -- The answer is what the command gives: of `losses` what the analysis loses; of `witness` what is told of a
 -- message; of each other a text, and that nothing is lost.
@@ -246,6 +247,7 @@ abbrev pub PassesMost : CommandForm → AnalyzedForm → Inputs → Type 0
 PassesMost (TakesStep asked edge) of inputs = ⊥
 PassesMost (TellsCounts asked) of inputs = ⊥
 PassesMost (TellsWitness asked aim bounds) of inputs = ⊥
+PassesMost (TellsWitnesses asked bounds) of inputs = ⊥
 PassesMost command of inputs = AreMoreThan of.max (Reached of inputs)
 
 -- a step that the command takes meets the budget: that of a structure along the command's edge, of an
@@ -254,6 +256,7 @@ abbrev pub MeetsItsBudget : CommandForm → AnalyzedForm → Inputs
     → (Budget : ProgramForm → (edge : ℕ) → StructureForm → Type 0) → Type 0
 MeetsItsBudget (TakesStep asked edge) of inputs Budget = Any (Budget (drawn_form inputs) edge) inputs.initial
 MeetsItsBudget (TellsWitness asked aim bounds) of inputs Budget = ⊥
+MeetsItsBudget (TellsWitnesses asked bounds) of inputs Budget = ⊥
 MeetsItsBudget command of inputs Budget =
     Meets (drawn_form inputs) (Budget (drawn_form inputs)) (Reached of inputs)
 
@@ -291,6 +294,8 @@ FilesMeanSuch told (TellsPlan program mode delta) AreSuch = ⊥
 FilesMeanSuch told (TellsCounts of) AreSuch = (inputs : Inputs) × FilesMean told of inputs × AreSuch of inputs
 FilesMeanSuch told (Completes program structures) AreSuch = ⊥
 FilesMeanSuch told (TellsWitness of aim bounds) AreSuch =
+    (inputs : Inputs) × FilesMean told of inputs × AreSuch of inputs
+FilesMeanSuch told (TellsWitnesses of bounds) AreSuch =
     (inputs : Inputs) × FilesMean told of inputs × AreSuch of inputs
 
 -- it is a command on a source program, which is compiled, or on structures that are completed, and what

@@ -8,7 +8,7 @@ use Rattle.tv_explain.specs.declared.fault.Ending.{Ending}
 use Rattle.tv_explain.specs.declared.fault.Ending.TheVariants.{As, Lost}
 use Rattle.tv_explain_words.specs.Words.{CommandForm, Shows, ListsEdges, TellsMessage, TellsStructure}
 use Rattle.tv_explain_words.specs.Words.{TellsLosses, Compiles, TakesStep, TellsPlan, TellsCounts, Completes}
-use Rattle.tv_explain_words.specs.Words.{TellsWitness, Spells}
+use Rattle.tv_explain_words.specs.Words.{TellsWitness, TellsWitnesses, Spells}
 
 -- how often files are begun for a command: those of its program, and each other that it names once
 abbrev pub begins_of : Held → CommandForm → ℕ
@@ -23,6 +23,7 @@ begins_of held (TellsPlan program mode delta) = program_begins held program
 begins_of held (TellsCounts of) = program_begins held of.program + 1
 begins_of held (Completes program structures) = program_begins held program + 1
 begins_of held (TellsWitness of aim bounds) = program_begins held of.program + 1
+begins_of held (TellsWitnesses of bounds) = program_begins held of.program + 1
 
 -- by as much as the command asks for
 abbrev pub BeginsFor : Option Held → (old new : ℕ) → CommandForm → Type 0

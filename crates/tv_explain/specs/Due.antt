@@ -39,7 +39,7 @@ use Rattle.tv_texts.specs.declared.source.SourceText.{SourceText}
 use Rattle.tv_texts.specs.declared.structures.StructuresText.{StructuresText}
 use Rattle.tv_explain_words.specs.Words.{AnalyzedForm, CommandForm, Shows, ListsEdges, TellsMessage}
 use Rattle.tv_explain_words.specs.Words.{TellsStructure, TellsLosses, Compiles, TakesStep, TellsPlan}
-use Rattle.tv_explain_words.specs.Words.{BoundsForm, TellsCounts, Completes, TellsWitness, SpellsNothing}
+use Rattle.tv_explain_words.specs.Words.{BoundsForm, TellsCounts, Completes, TellsWitness, TellsWitnesses, SpellsNothing}
 use Rattle.tv_heap_steps.specs.Settled.{AreAllSettled}
 use Rattle.tv_witness_laws.specs.Laws.{asks_message}
 use Rattle.tv_witness_laws.specs.Witness.{HasWitness, Question}
@@ -69,6 +69,7 @@ abbrev pub KeepsItsLimits : CommandForm → AnalyzedForm → Inputs → Type 0
 KeepsItsLimits (TakesStep asked edge) of inputs = KeepsEach edge inputs
 KeepsItsLimits (TellsCounts asked) of inputs = KeepsReached of inputs
 KeepsItsLimits (TellsWitness asked aim bounds) of inputs = Unit {0}
+KeepsItsLimits (TellsWitnesses asked bounds) of inputs = Unit {0}
 KeepsItsLimits command of inputs = IsWithinLimits of inputs
 
 -- wherever a node of this name stands, what the analysis lists there is such

@@ -20,7 +20,7 @@ use Rattle.tv_explain.specs.declared.inputs.Drawn.{Drawn}
 use Rattle.tv_explain.specs.declared.inputs.Inputs.{Inputs}
 use Rattle.tv_explain_words.specs.Words.{AnalyzedForm, CommandForm, Shows, ListsEdges, TellsMessage}
 use Rattle.tv_explain_words.specs.Words.{TellsStructure, TellsLosses, Compiles, TakesStep, TellsPlan}
-use Rattle.tv_explain_words.specs.Words.{TellsCounts, Completes, TellsWitness}
+use Rattle.tv_explain_words.specs.Words.{TellsCounts, Completes, TellsWitness, TellsWitnesses}
 
 -- the file of the command's program, or of its source program
 abbrev pub program_name : CommandForm → List ℕ
@@ -35,6 +35,7 @@ program_name (TellsPlan program mode delta) = program
 program_name (TellsCounts of) = of.program
 program_name (Completes program structures) = program
 program_name (TellsWitness of aim bounds) = of.program
+program_name (TellsWitnesses of bounds) = of.program
 
 -- ---- a program with its edges as they are written
 
@@ -105,6 +106,7 @@ IsRefused told (Completes program structures) role.Program kind = IsProgramFile 
 IsRefused told (Completes program structures) role.Initial kind = (p : Program)
     × IsProgramFile told program (Ok p) × IsInitialFile told structures p (Err kind)
 IsRefused told (TellsWitness of aim bounds) role kind = IsNoAnalysis told of role kind
+IsRefused told (TellsWitnesses of bounds) role kind = IsNoAnalysis told of role kind
 IsRefused told command other kind = ⊥
 
 -- PROGRAM isn't there, or a file that it includes and that is come to before any refusal; or it means a
@@ -129,6 +131,7 @@ IsMissing told (TellsCounts of) = LacksInputs told of
 IsMissing told (Completes program structures) = LacksFile told program
     ⊎ ((p : Program) × IsProgramFile told program (Ok p) × (¬ HoldsName told structures))
 IsMissing told (TellsWitness of aim bounds) = LacksInputs told of
+IsMissing told (TellsWitnesses of bounds) = LacksInputs told of
 
 abbrev pub HoldsInputs : Option Held → AnalyzedForm → Type 0
 HoldsInputs told of = (¬ LacksFile told of.program) × HoldsName told of.initial
@@ -146,3 +149,4 @@ HoldsFiles told (TellsPlan program mode delta) = ¬ LacksFile told program
 HoldsFiles told (TellsCounts of) = HoldsInputs told of
 HoldsFiles told (Completes program structures) = (¬ LacksFile told program) × HoldsName told structures
 HoldsFiles told (TellsWitness of aim bounds) = HoldsInputs told of
+HoldsFiles told (TellsWitnesses of bounds) = HoldsInputs told of

@@ -10,7 +10,7 @@ use Rattle.tv_explain.specs.declared.question.Question.{Question}
 use Rattle.tv_explain.specs.declared.question.Question.TheVariants as asked
 use Rattle.tv_explain.specs.declared.question.Search.{Search}
 use Rattle.tv_explain_words.specs.Words.{AnalyzedForm, CommandForm, TakesStep, TellsCounts, TellsLosses}
-use Rattle.tv_explain_words.specs.Words.{TellsMessage, TellsStructure, TellsWitness, bounds_of}
+use Rattle.tv_explain_words.specs.Words.{TellsMessage, TellsStructure, TellsWitness, TellsWitnesses, bounds_of}
 
 abbrev pub witness_command : AnalyzedForm → Search → CommandForm
 witness_command of search = TellsWitness of search.aim (bounds_of search.bounds)

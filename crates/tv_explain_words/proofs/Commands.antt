@@ -14,7 +14,7 @@ use Rattle.tv_words.proofs.Reading.{one_line}
 use Rattle.tv_explain_words.specs.Words.{AnalyzedForm, CommandForm, Shows, ListsEdges, TellsMessage}
 use Rattle.tv_explain_words.specs.Words.{TellsStructure, TellsLosses, Compiles, HasOptions, IsNumber}
 use Rattle.tv_explain_words.specs.Words.{TakesStep, TellsPlan, TellsCounts, Completes, IsPlain, Says}
-use Rattle.tv_explain_words.specs.Words.{TellsWitness, AskedForm, Asks, BoundsForm}
+use Rattle.tv_explain_words.specs.Words.{TellsWitness, TellsWitnesses, AskedForm, Asks, BoundsForm}
 use Rattle.tv_explain_words.specs.Words.{ArePieces, HasNoSearch, IsAskedBy, IsAskedOn, IsCells, IsStates, NoneAskedBy}
 use Rattle.tv_explain_words.specs.Words.{SaysBounds, SaysPiece, asked_flags, asked_of, asked_settings, piece_for}
 use Rattle.tv_explain_words.specs.Words.{told_asked}
@@ -48,6 +48,7 @@ module _ (a b : LineForm) (alike : AreAlike a b) where
   same_said (Completes program structures) h = (sym alike.operands ∙ h.0, same_plain h.1)
   same_said (TellsWitness of aim bounds) h =
       (h.0, h.1, sym alike.operands ∙ h.2, same_options of h.3, sym alike.max ∙ h.4, h.5, h.6)
+  same_said (TellsWitnesses of bounds) h = (sym alike.operands ∙ h.0, same_options of h.1, sym alike.max ∙ h.2)
 
 -- lines with bounds that are alike
 record AreAskedAlike (a b : AskedForm) : Type 0 where
@@ -91,6 +92,10 @@ module _ (a b : AskedForm) (alike : AreAskedAlike a b) where
     subst (λ vs. IsCells vs bounds.cells) alike.cells h.0,
     subst (λ vs. IsStates vs bounds.states) alike.states h.1,
   )
+  same_bounds (TellsWitnesses of bounds) h = (
+    subst (λ vs. IsCells vs bounds.cells) alike.cells h.0,
+    subst (λ vs. IsStates vs bounds.states) alike.states h.1,
+  )
 
   same_asked : (command : CommandForm) → Asks a command → Asks b command
   same_asked command h = (
@@ -102,7 +107,8 @@ module _ (a b : AskedForm) (alike : AreAskedAlike a b) where
 
 -- ---- commands that search no heaps
 
-module _ (name : List ℕ) (asked : AskedForm) (other : name ≡ codes "witness" → ⊥) where
+module _ (name : List ℕ) (asked : AskedForm) (one : name ≡ codes "witness" → ⊥)
+    (all : name ≡ codes "witnesses" → ⊥) where
   no_options : (command : CommandForm) → command_word command ≡ name → HasNoSearch asked
       → SaysBounds asked command × SaysPiece asked command
   no_options (Shows program report) named (x, y, z) = ((x, y), z)
@@ -115,7 +121,8 @@ module _ (name : List ℕ) (asked : AskedForm) (other : name ≡ codes "witness"
   no_options (TellsPlan program mode delta) named (x, y, z) = ((x, y), z)
   no_options (TellsCounts of) named (x, y, z) = ((x, y), z)
   no_options (Completes program structures) named (x, y, z) = ((x, y), z)
-  no_options (TellsWitness of aim bounds) named none = absurd (other (sym named))
+  no_options (TellsWitness of aim bounds) named none = absurd (one (sym named))
+  no_options (TellsWitnesses of bounds) named none = absurd (all (sym named))
 
   options_none : (command : CommandForm) → command_word command ≡ name
       → SaysBounds asked command × SaysPiece asked command → HasNoSearch asked
@@ -129,7 +136,8 @@ module _ (name : List ℕ) (asked : AskedForm) (other : name ≡ codes "witness"
   options_none (TellsPlan program mode delta) named ((x, y), z) = (x, y, z)
   options_none (TellsCounts of) named ((x, y), z) = (x, y, z)
   options_none (Completes program structures) named ((x, y), z) = (x, y, z)
-  options_none (TellsWitness of aim bounds) named none = absurd (other (sym named))
+  options_none (TellsWitness of aim bounds) named none = absurd (one (sym named))
+  options_none (TellsWitnesses of bounds) named none = absurd (all (sym named))
 
   -- an option stands that the command doesn't have
   pub none_with_options : (HasNoSearch asked → ⊥) → NoneAskedBy name asked
@@ -334,8 +342,14 @@ one_said asked (TellsWitness of aim bounds) (TellsWitness of' aim' bounds') name
     let states = one_states asked.states bounds.states bounds'.states x.1 y.1 in
     λ i. TellsWitness (same i) (record { edge = edges i; number = numbers i; piece = pieces i })
     (record { cells = cells i; states = states i })
+one_said asked (TellsWitnesses of bounds) (TellsWitnesses of' bounds') named (a, x, p) (b, y, q) =
+    let names : of.program ∷ of.initial ∷ [] ≡ of'.program ∷ of'.initial ∷ [] = sym a.0 ∙ b.0 in
+    let same = one_asked asked.line of of' (ap (operand 0) names) (ap (operand 1) names) a.1 b.1 in
+    let cells = one_cells asked.cells bounds.cells bounds'.cells x.0 y.0 in
+    let states = one_states asked.states bounds.states bounds'.states x.1 y.1 in
+    λ i. TellsWitnesses (same i) (record { cells = cells i; states = states i })
 one_said asked a b named x y =
-    absurd (omega (arith, ap first_byte named, ap third_byte named, ap fifth_byte named))
+    absurd (omega (arith, ap first_byte named, ap third_byte named, ap fifth_byte named, ap length named))
 
 pub one_spelled : (words : List (List ℕ)) (a b : CommandForm) → Spells words a → Spells words b → a ≡ b
 one_spelled words a b (rest, e, h) (rest', f, k) =

@@ -14,7 +14,7 @@ use Rattle.tv_explain_words.specs.declared.words.Bounds.{Bounds}
 use Rattle.tv_explain_words.specs.declared.words.Command.{Command}
 use Rattle.tv_explain_words.specs.declared.words.Command.TheVariants.{Show, Edges, Message, Structure, Losses}
 use Rattle.tv_explain_words.specs.declared.words.Command.TheVariants.{Compiled, Step, Plan, Counts, Complete}
-use Rattle.tv_explain_words.specs.declared.words.Command.TheVariants.{Witness}
+use Rattle.tv_explain_words.specs.declared.words.Command.TheVariants.{Witness, Witnesses}
 use Rattle.tv_explain_words.specs.declared.words.Aim.{Aim}
 use Rattle.tv_explain_words.specs.declared.words.Piece.{Piece}
 use Rattle.tv_explain_words.specs.declared.words.Piece.TheVariants.{Whole, Start, Trace}
@@ -57,6 +57,7 @@ pub data CommandForm : Type 0 where
   TellsCounts : (of : AnalyzedForm) → CommandForm
   Completes : (program structures : List ℕ) → CommandForm
   TellsWitness : (of : AnalyzedForm) → (aim : Aim) → (bounds : BoundsForm) → CommandForm
+  TellsWitnesses : (of : AnalyzedForm) → (bounds : BoundsForm) → CommandForm
 
 abbrev pub form_of : Command → CommandForm
 form_of (Show program report) = Shows (string_bytes program) (string_bytes report)
@@ -70,6 +71,7 @@ form_of (Plan program mode delta) = TellsPlan (string_bytes program) mode delta
 form_of (Counts of) = TellsCounts (analyzed_of of)
 form_of (Complete program structures) = Completes (string_bytes program) (string_bytes structures)
 form_of (Witness of aim bounds) = TellsWitness (analyzed_of of) aim (bounds_of bounds)
+form_of (Witnesses of bounds) = TellsWitnesses (analyzed_of of) (bounds_of bounds)
 
 -- this is said of the command
 abbrev pub SaidOf : (CommandForm → Type 0) → Command → Type 0
@@ -88,6 +90,7 @@ command_word (TellsPlan program mode delta) = codes "plan"
 command_word (TellsCounts of) = codes "counts"
 command_word (Completes program structures) = codes "complete"
 command_word (TellsWitness of aim bounds) = codes "witness"
+command_word (TellsWitnesses of bounds) = codes "witnesses"
 
 -- the word is this number, without sign or leading zero
 abbrev pub IsNumber : (word : List ℕ) → (number : ℕ) → Type 0
@@ -122,6 +125,8 @@ Says line (Completes program structures) = (line.operands ≡ program ∷ struct
 Says line (TellsWitness of aim bounds) = (e n : List ℕ)
     × (line.operands ≡ of.program ∷ of.initial ∷ e ∷ n ∷ []) × HasOptions line of × (line.max ≡ [])
     × IsNumber e aim.edge × IsNumber n aim.number
+Says line (TellsWitnesses of bounds) = (line.operands ≡ of.program ∷ of.initial ∷ []) × HasOptions line of
+    × (line.max ≡ [])
 
 -- ---- lines with the options of searches among heaps
 
@@ -212,9 +217,10 @@ piece_for other = Whole
 abbrev pub SaysPiece : AskedForm → CommandForm → Type 0
 SaysPiece asked command = ArePieces asked.start_only asked.trace_only (piece_for command)
 
--- `witness` may have both bounds, no other command has one
+-- `witness` and `witnesses` may have both bounds, no other command has one
 abbrev pub SaysBounds : AskedForm → CommandForm → Type 0
 SaysBounds asked (TellsWitness of aim bounds) = HasBounds asked bounds
+SaysBounds asked (TellsWitnesses of bounds) = HasBounds asked bounds
 SaysBounds asked other = (asked.cells ≡ []) × (asked.states ≡ [])
 
 -- no option of searches stands

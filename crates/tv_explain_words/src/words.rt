@@ -86,6 +86,12 @@ pub enum Command {
         aim: Aim,
         bounds: Bounds,
     },
+    /// Writes of each message of the program whether a run of few small heaps leads to it. `max` is that of
+    /// words that don't say it.
+    Witnesses {
+        of: Analyzed,
+        bounds: Bounds,
+    },
 }
 
 /// What is written of a witness: all of it, or its start heap alone, or its steps alone.
@@ -449,9 +455,32 @@ fn witness(alloc: Global, asked_line: &AskedLine<'_, '_>) -> Result<Option<Comma
     Ok(Some(Command::Witness { of, aim, bounds }))
 }
 
+/// The command of the name `witnesses` that the line says.
+fn witnesses(alloc: Global, asked_line: &AskedLine<'_, '_>) -> Result<Option<Command>, AllocError>
+    ensures some { IfOk result (λ found. IfSome found
+        (SaidOf (IsAskedBy (codes "witnesses") (asked_in asked_line.now)))) }
+    ensures none { IfOk result (λ found. IfNone found
+        (NoneAskedBy (codes "witnesses") (asked_in asked_line.now))) }
+{
+    let Some((program, initial)) = two(asked_line.line.operands) else {
+        return Ok(None);
+    };
+    if asked_line.start_only != 0 || asked_line.trace_only != 0 || has_values(asked_line.line.max) {
+        return Ok(None);
+    }
+    let Some(bounds) = told_bounds(asked_line) else {
+        return Ok(None);
+    };
+    match asked(alloc, &asked_line.line, program, initial)? {
+        Some(of) => Ok(Some(Command::Witnesses { of, bounds })),
+        None => Ok(None),
+    }
+}
+
 /// The command of that name that the line says, if it is none that searches heaps.
 fn said(alloc: Global, name: &str, line: &Line<'_, '_>) -> Result<Option<Command>, AllocError>
-    requires other { ¬ (name.now ≡ codes "witness") }
+    requires one { ¬ (name.now ≡ codes "witness") }
+    requires all { ¬ (name.now ≡ codes "witnesses") }
     ensures some { IfOk result (λ found. IfSome found (SaidOf (IsSaid name.now (line_in line.now)))) }
     ensures none { IfOk result (λ found. IfNone found (NoneSaid name.now (line_in line.now))) }
 {
@@ -480,14 +509,15 @@ fn has_no_search(asked: &AskedLine<'_, '_>) -> bool
         && asked.trace_only == 0
 }
 
-/// The command of that name that the line says, which isn't `witness`.
+/// The command of that name that the line says, which searches no heaps.
 #[tactic(auto, using(crate::proofs::Commands::none_with_options, crate::proofs::Commands::asked_without, crate::proofs::Commands::unasked_without))]
 fn said_without(
     alloc: Global,
     name: &str,
     asked: &AskedLine<'_, '_>,
 ) -> Result<Option<Command>, AllocError>
-    requires other { ¬ (name.now ≡ codes "witness") }
+    requires one { ¬ (name.now ≡ codes "witness") }
+    requires all { ¬ (name.now ≡ codes "witnesses") }
     ensures some { IfOk result
         (λ found. IfSome found (SaidOf (IsAskedBy name.now (asked_in asked.now)))) }
     ensures none { IfOk result (λ found. IfNone found (NoneAskedBy name.now (asked_in asked.now))) }
@@ -510,6 +540,7 @@ fn said_by(
 {
     match name {
         "witness" => witness(alloc, asked),
+        "witnesses" => witnesses(alloc, asked),
         _ => said_without(alloc, name, asked),
     }
 }
