@@ -2,3 +2,4 @@ pub mod Runs
 pub mod Reports
 pub mod Cells
 pub mod Laws
+pub mod Many
