@@ -6,7 +6,7 @@ use Rattle.std.proofs.Common.{inl, inr}
 use Rattle.std.proofs.Common.{refl, sym, ap, subst, ◌∙◌, arith, ⊎_elim}
 use Rattle.std.proofs.lemmas.Option.{same_Some, slice_get_past, slice_get_within}
 use Rattle.std.proofs.lemmas.List.Elements.{All-contains}
-use Rattle.std.specs.Prelude.{All, Contains, IsSome, IsTrue, length, slice_get}
+use Rattle.std.specs.Prelude.{All, Any, Contains, IsSome, IsTrue, length, slice_get}
 use Rattle.tv_compiled.specs.Compiled.{written}
 use Rattle.tv_complete_text.specs.Text.{ReadsAsStructures}
 use Rattle.tv_front.specs.Meaning.{Means}
@@ -43,6 +43,7 @@ use Rattle.tv_witness_laws.proofs.Counting.{enough_cells_show_runs}
 use Rattle.tv_witness_laws.specs.Laws.{asks_message}
 use Rattle.tv_witness_laws.specs.Witness.{HasWitness, IsWitness, Question, with_cells}
 use Rattle.tv_witness_text.specs.Cells.{cells_for}
+use Rattle.tv_witness_text.specs.Many.{AreVerdicts}
 use Rattle.tv_witness_text.specs.Reports.{Task, TellsAnswer, question_along}
 use Rattle.tv_witness_text.specs.declared.answer.WitnessReport.{WitnessReport}
 use Rattle.tv_work.specs.Analyzed.{KeepAllBudgets, Meets}
@@ -50,12 +51,12 @@ use Rattle.tv_work.specs.Reach.{AreMoreThan, IsReached}
 use Rattle.tv_explain.proofs.Alike.{AreRead, SameInputs, moved, not_refused, one_inputs, one_refusal, read_of}
 use Rattle.tv_explain.specs.Answers.{FilesMeanSuch, HasNoCompletion, HasNoText, IsAnswer, IsCompiledText}
 use Rattle.tv_explain.specs.Answers.{IsStopped, IsUnwritten, MeetsItsBudget, NamesNothing, PassesMost}
-use Rattle.tv_explain.specs.Answers.{LacksSearch, Reached, witness_task}
+use Rattle.tv_explain.specs.Answers.{LacksSearch, LeavesFree, Reached, witness_task}
 use Rattle.tv_explain.specs.Answers.{IsCompletionOf, ReadsSuch, compiled_lines}
 use Rattle.tv_explain.specs.Call.{Commands, IsEnded, IsFound}
 use Rattle.tv_explain.specs.Delivery.{IsDelivered, ending_for}
 use Rattle.tv_explain.specs.Due.{Owes, CallsWithinLimits, CanAnswer, CanBeWritten, CommandOwes}
-use Rattle.tv_explain.specs.Due.{EndsAsOwed, SearchesSuch, StandsAnyway}
+use Rattle.tv_explain.specs.Due.{EndsAsOwed, SearchesAll, SearchesSuch, StandsAnyway}
 use Rattle.tv_explain.specs.Due.{HasMessage, IsAbsent, MayStand, AtLimit, IsWithinLimits, KeepsLimits}
 use Rattle.tv_explain.specs.Due.{AreReadTogether, CanBeCompleted, CannotBeCompleted, CannotWrite, KeepsEach}
 use Rattle.tv_explain.specs.Due.{KeepsItsLimits}
@@ -312,6 +313,29 @@ one_search_lack p edge number sought.Values sought.Structure h k = absurd k
 one_search_lack p edge number sought.Node other h k = absurd h
 one_search_lack p edge number sought.Structure other h k = absurd h
 
+-- where nothing is left free
+free_settled : (p : ProgramForm) (what : Sought) → AreAllSettled p.actions → LeavesFree p what → ⊥
+free_settled p sought.Values settled free = free settled
+free_settled p sought.Edge settled free = free
+free_settled p sought.Message settled free = free
+free_settled p sought.Node settled free = free
+free_settled p sought.Structure settled free = free
+
+one_free : (p : ProgramForm) (what other : Sought) → LeavesFree p what → LeavesFree p other → what ≡ other
+one_free p sought.Values sought.Values h k = refl
+one_free p sought.Values sought.Edge h k = absurd k
+one_free p sought.Values sought.Message h k = absurd k
+one_free p sought.Values sought.Node h k = absurd k
+one_free p sought.Values sought.Structure h k = absurd k
+one_free p sought.Edge other h k = absurd h
+one_free p sought.Message other h k = absurd h
+one_free p sought.Node other h k = absurd h
+one_free p sought.Structure other h k = absurd h
+
+not_so : (flag : Bool) (P : Type 0) → (IsTrue flag ↔ P) → (¬ P) → flag ≡ false
+not_so true P is none = absurd (none (is.0 refl))
+not_so false P is none = refl
+
 -- a witness of fewer cells is one of more
 grown : (q : Question) (cells : ℕ) → cells ≤ q.cells → (start : Heap) (stages : List Stage)
     → IsWitness (with_cells q cells) start stages → HasWitness q
@@ -379,6 +403,12 @@ kept_heaps of asked aim bounds b (inl many) = many
 kept_heaps of asked aim bounds b (inr (inl meets)) = meets
 kept_heaps of asked aim bounds b (inr (inr meets)) = meets
 
+kept_many : (of asked : AnalyzedForm) (bounds : BoundsForm) (b : Inputs)
+    → PassesLimit (TellsWitnesses asked bounds) of b → ⊥
+kept_many of asked bounds b (inl many) = many
+kept_many of asked bounds b (inr (inl meets)) = meets
+kept_many of asked bounds b (inr (inr meets)) = meets
+
 -- a step along an edge meets a budget only where there is the edge
 edge_met : (of asked : AnalyzedForm) (edge : ℕ) (b : Inputs) → PassesLimit (TakesStep asked edge) of b
     → edge < length (drawn_form b).edges
@@ -434,6 +464,15 @@ module _ (of : AnalyzedForm) (a b : Inputs) (same : SameInputs a b) where
       × ((taken : Edge) (message : MessageForm) → slice_get p.edges edge ≡ Some taken
       → slice_get (messages_at p edge) number ≡ Some message
       → IsSuch (asks_message p of.mode i (cells_for bounds.cells i) taken message))) a b same h
+
+  leaves_free : (what : Sought) → LeavesFree (drawn_form a) what → LeavesFree (drawn_form b) what
+  leaves_free what h = moved (λ p i. LeavesFree p what) a b same h
+
+  searches_all : (bounds : BoundsForm) (AreSuch : List (Option Fewest) → Type 0) → SearchesAll of a bounds AreSuch
+      → SearchesAll of b bounds AreSuch
+  searches_all bounds AreSuch h = moved
+      (λ p i. AreAllSettled p.actions × ((founds : List (Option Fewest))
+      → AreVerdicts p of.mode i (cells_for bounds.cells i) founds → AreSuch founds)) a b same h
 
   has_node : (node : List ℕ) → Contains (drawn_form a).nodes node → Contains (drawn_form b).nodes node
   has_node node h = moved (λ p i. Contains p.nodes node) a b same h
@@ -539,6 +578,11 @@ module _ (told : Option Held)
         (witness_task of h.0 bounds) aim.edge aim.number h.2.0.text aim.piece
         (record { text = a.text; is_found = a.is_lost })
         report.2.1 report.2.2 (such.3 report.0 h.2.0 report.1 h.2.1)
+    done_answer (TellsWitnesses of bounds) a h can =
+        let same = same_inputs of can.0 h.0 can.1 h.1 in
+        let such = searches_all of can.0 h.0 same bounds (λ founds. ¬ Any IsSome founds) can.2 in
+        let report = h.2.1 in
+        not_so a.is_lost (Any IsSome report.0) report.3 (such.1 report.0 report.1)
 
     lost_answer : (command : CommandForm) (a : Answer) → IsAnswer told command a → LosesSome told command
         → a.is_lost ≡ true
@@ -554,6 +598,11 @@ module _ (told : Option Held)
         (witness_task of h.0 bounds) aim.edge aim.number h.2.0.text aim.piece
         (record { text = a.text; is_found = a.is_lost })
         report.2.1 report.2.2 (such.3 report.0 h.2.0 report.1 h.2.1)
+    lost_answer (TellsWitnesses of bounds) a h some =
+        let same = same_inputs of some.0 h.0 some.1 h.1 in
+        let such = searches_all of some.0 h.0 same bounds (Any IsSome) some.2 in
+        let report = h.2.1 in
+        report.3.1 (such.1 report.0 report.1)
     lost_answer other a h some = absurd some
 
     answer_there : (command : CommandForm) (a : Answer) (what : Sought) → IsAnswer told command a
@@ -582,6 +631,9 @@ module _ (told : Option Held)
     answer_there (TellsWitness of aim bounds) a what h lacks =
         search_there (drawn_form h.0) aim.edge aim.number h.2.0 what h.2.1 h.2.2
         (lacks_search of lacks.0 h.0 (same_inputs of lacks.0 h.0 lacks.1 h.1) aim.edge aim.number what lacks.2)
+    answer_there (TellsWitnesses of bounds) a what h lacks =
+        free_settled (drawn_form h.0) what h.2.0
+        (leaves_free of lacks.0 h.0 (same_inputs of lacks.0 h.0 lacks.1 h.1) what lacks.2)
     answer_there other a what h lacks = lacks
 
     answer_written : (command : CommandForm) (a : Answer) (why : Unwritten) → IsAnswer told command a
@@ -624,6 +676,7 @@ module _ (told : Option Held)
     within_limits (TellsCounts of) h keeps = kept_reached of of h.0
         (as_said of (λ p i. KeepAllBudgets p (IsReached p of.mode i)) keeps.0 h.0 keeps.1 h.1 keeps.2) h.2
     within_limits (TellsWitness of aim bounds) h keeps = kept_heaps of of aim bounds h.0 h.2
+    within_limits (TellsWitnesses of bounds) h keeps = kept_many of of bounds h.0 h.2
     within_limits other h keeps = h
 
     done_within : (command : CommandForm) → Stops told command → CanAnswer told command → ⊥
@@ -635,11 +688,13 @@ module _ (told : Option Held)
     done_within (TakesStep of edge) h can = within_limits (TakesStep of edge) h (can.0, can.1, can.2)
     done_within (TellsCounts of) h can = within_limits (TellsCounts of) h (can.0, can.1, can.2)
     done_within (TellsWitness of aim bounds) h can = kept_heaps of of aim bounds h.0 h.2
+    done_within (TellsWitnesses of bounds) h can = kept_many of of bounds h.0 h.2
     done_within other h can = h
 
     some_within : (command : CommandForm) → Stops told command → LosesSome told command → ⊥
     some_within (TellsLosses of) h some = within_limits (TellsLosses of) h (some.0, some.1, some.2)
     some_within (TellsWitness of aim bounds) h some = kept_heaps of of aim bounds h.0 h.2
+    some_within (TellsWitnesses of bounds) h some = kept_many of of bounds h.0 h.2
     some_within other h some = some
 
     stops_there : (command : CommandForm) (what : Sought) → Stops told command → IsAbsent told command what → ⊥
@@ -651,6 +706,7 @@ module _ (told : Option Held)
         edge_there (drawn_form h.0) edge what (edge_met of of edge h.0 h.2)
         (lacks_edge of lacks.0 h.0 (same_inputs of lacks.0 h.0 lacks.1 h.1) edge what lacks.2)
     stops_there (TellsWitness of aim bounds) what h lacks = kept_heaps of of aim bounds h.0 h.2
+    stops_there (TellsWitnesses of bounds) what h lacks = kept_many of of bounds h.0 h.2
     stops_there other what h lacks = lacks
 
     -- ---- what isn't there
@@ -685,6 +741,10 @@ module _ (told : Option Held)
         let same = same_inputs of can.0 h.0 can.1 h.1 in
         let such = searches of can.0 h.0 same aim.edge aim.number bounds (λ q. ¬ HasWitness q) can.2 in
         searched_there (drawn_form h.0) aim.edge aim.number what such.0 such.1 such.2 h.2
+    absent_done (TellsWitnesses of bounds) what h can =
+        let same = same_inputs of can.0 h.0 can.1 h.1 in
+        let such = searches_all of can.0 h.0 same bounds (λ founds. ¬ Any IsSome founds) can.2 in
+        free_settled (drawn_form h.0) what such.0 h.2
     absent_done other what h can = h
 
     absent_some : (command : CommandForm) (what : Sought)
@@ -695,6 +755,10 @@ module _ (told : Option Held)
         let same = same_inputs of some.0 h.0 some.1 h.1 in
         let such = searches of some.0 h.0 same aim.edge aim.number bounds HasWitness some.2 in
         searched_there (drawn_form h.0) aim.edge aim.number what such.0 such.1 such.2 h.2
+    absent_some (TellsWitnesses of bounds) what h some =
+        let same = same_inputs of some.0 h.0 some.1 h.1 in
+        let such = searches_all of some.0 h.0 same bounds (Any IsSome) some.2 in
+        free_settled (drawn_form h.0) what such.0 h.2
     absent_some other what h some = some
 
     one_absence : (command : CommandForm) (what other : Sought)
@@ -731,6 +795,9 @@ module _ (told : Option Held)
     one_absence (TellsWitness of aim bounds) what other h lacks =
         one_search_lack (drawn_form h.0) aim.edge aim.number what other h.2
         (lacks_search of lacks.0 h.0 (same_inputs of lacks.0 h.0 lacks.1 h.1) aim.edge aim.number other lacks.2)
+    one_absence (TellsWitnesses of bounds) what other h lacks =
+        one_free (drawn_form h.0) what other h.2
+        (leaves_free of lacks.0 h.0 (same_inputs of lacks.0 h.0 lacks.1 h.1) other lacks.2)
     one_absence other what sought h lacks = absurd lacks
 
     -- ---- programs that aren't written

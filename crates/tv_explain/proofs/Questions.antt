@@ -16,6 +16,7 @@ use Rattle.tv_explain.specs.declared.inputs.Inputs.{Inputs}
 use Rattle.tv_explain.specs.declared.question.Question.{Question}
 use Rattle.tv_explain.specs.declared.question.Question.TheVariants as asked
 use Rattle.tv_explain_words.specs.Words.{AnalyzedForm, TakesStep, TellsCounts, TellsLosses, TellsMessage}
+use Rattle.tv_explain_words.specs.Words.{TellsWitnesses, bounds_of}
 use Rattle.tv_explain_words.specs.Words.{TellsStructure}
 
 module _ (told : Option Held) (of : AnalyzedForm) where
@@ -34,6 +35,8 @@ module _ (told : Option Held) (of : AnalyzedForm) where
       inputs_cause told (TellsCounts of) of rose steady f (λ k r. r) (λ k r. r) (λ l. l) h
   unread (asked.Witness search) rose steady f h =
       inputs_cause told (witness_command of search) of rose steady f (λ k r. r) (λ k r. r) (λ l. l) h
+  unread (asked.Witnesses bounds) rose steady f h =
+      inputs_cause told (TellsWitnesses of (bounds_of bounds)) of rose steady f (λ k r. r) (λ k r. r) (λ l. l) h
 
   -- what stops the answer stops the command
   pub stopped : (question : Question) (inputs : Inputs) (rose steady : Type 0) (f : Fault)
@@ -51,6 +54,9 @@ module _ (told : Option Held) (of : AnalyzedForm) where
       stopped_cause told (TellsCounts of) of inputs rose steady f (λ P is. (inputs, means, is)) h
   stopped (asked.Witness search) inputs rose steady f means h =
       stopped_cause told (witness_command of search) of inputs rose steady f (λ P is. (inputs, means, is)) h
+  stopped (asked.Witnesses bounds) inputs rose steady f means h =
+      stopped_cause told (TellsWitnesses of (bounds_of bounds)) of inputs rose steady f
+      (λ P is. (inputs, means, is)) h
 
   -- the answer to the question is the command's
   pub answered : (question : Question) (inputs : Inputs) (answer : Answer) → FilesMean told of inputs
@@ -61,6 +67,7 @@ module _ (told : Option Held) (of : AnalyzedForm) where
   answered (asked.Step edge) inputs answer means h = ((inputs, means, h.0), h.1)
   answered asked.Counts inputs answer means h = ((inputs, means, h.0), h.1)
   answered (asked.Witness search) inputs answer means h = (inputs, means, h)
+  answered (asked.Witnesses bounds) inputs answer means h = (inputs, means, h)
 
   -- ---- how often files are begun
 
@@ -73,6 +80,7 @@ module _ (told : Option Held) (of : AnalyzedForm) where
   begun (asked.Step edge) old new h = h
   begun asked.Counts old new h = h
   begun (asked.Witness search) old new h = h
+  begun (asked.Witnesses bounds) old new h = h
 
   pub few_begun : (question : Question) (old new : ℕ)
       → BeginsAtMost told (λ held. program_begins held of.program + 1) old new
@@ -83,3 +91,4 @@ module _ (told : Option Held) (of : AnalyzedForm) where
   few_begun (asked.Step edge) old new h = h
   few_begun asked.Counts old new h = h
   few_begun (asked.Witness search) old new h = h
+  few_begun (asked.Witnesses bounds) old new h = h

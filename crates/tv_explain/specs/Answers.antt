@@ -1,5 +1,5 @@
 -- What a command answers, and what it gives no answer for.
-use Rattle.std.specs.Prelude.{ℕ, ◌≡◌, ◌⊎◌, ◌<◌, ◌≤◌, false, List, ◌++◌, Option, Some, Ok, length, slice_get}
+use Rattle.std.specs.Prelude.{ℕ, ◌≡◌, ◌⊎◌, ◌<◌, ◌≤◌, true, false, List, ◌++◌, Option, Some, Ok, length, slice_get}
 use Rattle.std.specs.Prelude.{codes}
 use Rattle.std.specs.Prelude.{Any, Contains}
 use Rattle.std.specs.List.{AllZip}
@@ -54,6 +54,7 @@ use Rattle.tv_explain_words.specs.declared.words.Aim.{Aim}
 use Rattle.tv_heap_search.specs.declared.error.Unanswered.TheVariants.{TooMany}
 use Rattle.tv_heap_steps.specs.Settled.{AreAllSettled}
 use Rattle.tv_witness_text.specs.Cells.{cells_for}
+use Rattle.tv_witness_text.specs.Many.{IsCauseOfNoVerdicts, IsVerdictReport}
 use Rattle.tv_witness_text.specs.Reports.{IsCauseOfNoReport, IsWitnessReport, Task}
 
 -- ---- messages and structures
@@ -121,6 +122,11 @@ abbrev pub PassesStates : AnalyzedForm → Inputs → Aim → BoundsForm → Pas
 PassesStates of inputs aim bounds passed = (passed.states ≡ bounds.states) × (message : MessageForm)
     × (slice_get (messages_at (drawn_form inputs) aim.edge) aim.number ≡ Some message)
     × IsCauseOfNoReport (witness_task of inputs bounds) aim.edge message (TooMany passed.cells)
+
+-- the answer has a line for each message of the program, and says whether any has a witness
+abbrev pub TellsOfWitnesses : AnalyzedForm → Inputs → BoundsForm → Answer → Type 0
+TellsOfWitnesses of inputs bounds answer = AreAllSettled (drawn_form inputs).actions
+    × IsVerdictReport (witness_task of inputs bounds) (record { text = answer.text; is_found = answer.is_lost })
 
 -- ---- compiled programs
 
@@ -206,6 +212,8 @@ IsAnswer told (TellsLosses of) answer = (inputs : Inputs) × FilesMean told of i
     × TellsOfLosses of inputs answer
 IsAnswer told (TellsWitness of aim bounds) answer = (inputs : Inputs) × FilesMean told of inputs
     × TellsOfWitness of inputs aim bounds answer
+IsAnswer told (TellsWitnesses of bounds) answer = (inputs : Inputs) × FilesMean told of inputs
+    × TellsOfWitnesses of inputs bounds answer
 IsAnswer told other answer = IsText told other answer.text.items × (answer.is_lost ≡ false)
 
 -- ---- limits, and what isn't there
@@ -225,6 +233,11 @@ LacksSearch p edge number sought.Structure = ⊥
 LacksSearch p edge number sought.Values =
     (edge < length p.edges) × (number < length (messages_at p edge)) × (¬ AreAllSettled p.actions)
 
+-- an action leaves a predicate free
+abbrev pub LeavesFree : ProgramForm → Sought → Type 0
+LeavesFree p sought.Values = ¬ AreAllSettled p.actions
+LeavesFree p other = ⊥
+
 -- what the words name isn't there: the program has no edge of that number, the edge's action no such message,
 -- the program no node of that name, or the analysis no structure at that place of it; or no message can be
 -- searched for
@@ -240,6 +253,7 @@ NamesNothing (TellsStructure asked node index) of inputs sought.Structure = (pla
 NamesNothing (TakesStep asked edge) of inputs sought.Edge = length (drawn_form inputs).edges ≤ edge
 NamesNothing (TellsWitness asked aim bounds) of inputs what =
     LacksSearch (drawn_form inputs) aim.edge aim.number what
+NamesNothing (TellsWitnesses asked bounds) of inputs what = LeavesFree (drawn_form inputs) what
 NamesNothing command of inputs other = ⊥
 
 -- more structures are reached than may be listed; a step, counts and a search among heaps have no such limit
@@ -263,7 +277,10 @@ MeetsItsBudget command of inputs Budget =
 -- a search among heaps has passed its limit
 abbrev pub PassesItsStates : CommandForm → AnalyzedForm → Inputs → Passed → Type 0
 PassesItsStates (TellsWitness asked aim bounds) of inputs passed =
-    PassesStates of inputs aim bounds passed
+    (passed.is_alone ≡ true) × PassesStates of inputs aim bounds passed
+PassesItsStates (TellsWitnesses asked bounds) of inputs passed =
+    (passed.is_alone ≡ false) × (passed.states ≡ bounds.states)
+    × IsCauseOfNoVerdicts (witness_task of inputs bounds) (TooMany passed.cells)
 PassesItsStates command of inputs passed = ⊥
 
 -- why the command gives no text where its files mean these: more structures are reached than may be listed,

@@ -1,6 +1,6 @@
 -- Which ending the words of a call and what its files hold call for.
 use Rattle.std.specs.Prelude.{ℕ, ◌≡◌, ◌⊎◌, ◌<◌, ◌≤◌, List, Option, Some, IsSome, Ok, Contains, length}
-use Rattle.std.specs.Prelude.{All, slice_get}
+use Rattle.std.specs.Prelude.{All, Any, slice_get}
 use Rattle.tv_lex.specs.Gather.{longest_gathered}
 use Rattle.tv_listing.specs.declared.analysis.Analysis.{Analysis}
 use Rattle.tv_losses.specs.Losses.{AreLosses}
@@ -21,7 +21,8 @@ use Rattle.tv_texts.specs.Meaning.{MeansProgram}
 use Rattle.tv_trail.specs.Reasons.{ListsAt}
 use Rattle.tv_work.specs.Analyzed.{KeepAllBudgets}
 use Rattle.tv_work.specs.Reach.{AreMoreThan, IsReached}
-use Rattle.tv_explain.specs.Answers.{FilesMeanSuch, IsCompletionOf, IsUnwritten, LacksSearch, compiled_lines}
+use Rattle.tv_explain.specs.Answers.{FilesMeanSuch, IsCompletionOf, IsUnwritten, LacksSearch, LeavesFree}
+use Rattle.tv_explain.specs.Answers.{compiled_lines}
 use Rattle.tv_explain.specs.Call.{Commands}
 use Rattle.tv_explain.specs.Meaning.{FilesMean, IsRefused, drawn_form}
 use Rattle.tv_explain.specs.declared.fault.Ending.{Ending}
@@ -40,10 +41,12 @@ use Rattle.tv_texts.specs.declared.structures.StructuresText.{StructuresText}
 use Rattle.tv_explain_words.specs.Words.{AnalyzedForm, CommandForm, Shows, ListsEdges, TellsMessage}
 use Rattle.tv_explain_words.specs.Words.{TellsStructure, TellsLosses, Compiles, TakesStep, TellsPlan}
 use Rattle.tv_explain_words.specs.Words.{BoundsForm, TellsCounts, Completes, TellsWitness, TellsWitnesses, SpellsNothing}
+use Rattle.tv_heap_search.specs.declared.fewest.Fewest.{Fewest}
 use Rattle.tv_heap_steps.specs.Settled.{AreAllSettled}
 use Rattle.tv_witness_laws.specs.Laws.{asks_message}
 use Rattle.tv_witness_laws.specs.Witness.{HasWitness, Question}
 use Rattle.tv_witness_text.specs.Cells.{cells_for}
+use Rattle.tv_witness_text.specs.Many.{AreVerdicts}
 
 -- ---- what an analysis is like
 
@@ -117,6 +120,13 @@ SearchesSuch of inputs edge number bounds IsSuch =
     (asks_message (drawn_form inputs) of.mode inputs.initial (cells_for bounds.cells inputs.initial) taken
     message))
 
+-- what a search for all messages tells is such
+abbrev pub SearchesAll : AnalyzedForm → Inputs → BoundsForm → (List (Option Fewest) → Type 0) → Type 0
+SearchesAll of inputs bounds AreSuch = AreAllSettled (drawn_form inputs).actions
+    × ((founds : List (Option Fewest))
+    → AreVerdicts (drawn_form inputs) of.mode inputs.initial (cells_for bounds.cells inputs.initial) founds
+    → AreSuch founds)
+
 -- nothing stands in the way of an answer that tells of nothing lost
 abbrev pub CanAnswer : Option Held → CommandForm → Type 0
 CanAnswer told (Shows program report) = (p : Program) × IsProgramFile told program (Ok p)
@@ -139,13 +149,18 @@ CanAnswer told (Completes program structures) = AreReadTogether told program str
     → IsStructuresText told structures p read → CanBeCompleted p read)
 CanAnswer told (TellsWitness of aim bounds) = (inputs : Inputs) × FilesMean told of inputs
     × SearchesSuch of inputs aim.edge aim.number bounds (λ q. ¬ HasWitness q)
+CanAnswer told (TellsWitnesses of bounds) = (inputs : Inputs) × FilesMean told of inputs
+    × SearchesAll of inputs bounds (λ founds. ¬ Any IsSome founds)
 
--- it is `losses`, of an analysis that loses something; or `witness`, of a message that has one
+-- it is `losses`, of an analysis that loses something; or `witness`, of a message that has one; or `witnesses`,
+-- where any message has one
 abbrev pub LosesSome : Option Held → CommandForm → Type 0
 LosesSome told (TellsLosses of) = (inputs : Inputs) × FilesMean told of inputs
     × IsWithinLimits of inputs × LosesSuch of inputs (λ losses. ¬ AreNone losses)
 LosesSome told (TellsWitness of aim bounds) = (inputs : Inputs) × FilesMean told of inputs
     × SearchesSuch of inputs aim.edge aim.number bounds HasWitness
+LosesSome told (TellsWitnesses of bounds) = (inputs : Inputs) × FilesMean told of inputs
+    × SearchesAll of inputs bounds (Any IsSome)
 LosesSome told other = ⊥
 
 -- the program has no edge of that number, or the edge's action no such message
@@ -177,6 +192,8 @@ IsAbsent told (TakesStep of edge) what = (inputs : Inputs) × FilesMean told of 
     × LacksEdge (drawn_form inputs) edge what
 IsAbsent told (TellsWitness of aim bounds) what = (inputs : Inputs) × FilesMean told of inputs
     × LacksSearch (drawn_form inputs) aim.edge aim.number what
+IsAbsent told (TellsWitnesses of bounds) what = (inputs : Inputs) × FilesMean told of inputs
+    × LeavesFree (drawn_form inputs) what
 IsAbsent told other what = ⊥
 
 -- each completed file is too long, or none means the completed structures, as the reason says

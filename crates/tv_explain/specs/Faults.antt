@@ -59,11 +59,12 @@ fault_of_step stage.Splits = TooManySplits
 fault_of_step stage.Individuals = TooManyIndividuals
 fault_of_step stage.Memory = Memory
 
--- the fault of a search that may meet so many heaps of each number of individuals
-abbrev pub fault_of_search : (states : ℕ) → Unanswered → Fault
-fault_of_search states search.Free = NotThere sought.Values
-fault_of_search states (search.TooMany cells) = Heaps (record { cells = cells; states = states })
-fault_of_search states search.Memory = Memory
+-- the fault of a search, for one message or for all, that may meet so many heaps of each number of individuals
+abbrev pub fault_of_search : (states : ℕ) → (is_alone : Bool) → Unanswered → Fault
+fault_of_search states is_alone search.Free = NotThere sought.Values
+fault_of_search states is_alone (search.TooMany cells) =
+    Heaps (record { cells = cells; states = states; is_alone = is_alone })
+fault_of_search states is_alone search.Memory = Memory
 
 -- the ending of a call whose work ended in this fault
 abbrev pub ending_of : Fault → Ending
@@ -112,6 +113,8 @@ usage_text =
     ++ line (codes "       tvla-explain complete PROGRAM STRUCTURES")
     ++ line (codes "       tvla-explain witness PROGRAM INITIAL EDGE NUMBER [--cells K] [--max-states M]"
     ++ codes " [--start-only | --trace-only] [--recompute | --delta]")
+    ++ line (codes
+    "       tvla-explain witnesses PROGRAM INITIAL [--cells K] [--max-states M] [--recompute | --delta]")
 
 -- what isn't there
 abbrev pub absent_text : Sought → List ℕ
@@ -122,15 +125,16 @@ absent_text sought.Structure = teller_line Explainer (codes "no such structure")
 absent_text sought.Values = teller_line Explainer (codes "an action leaves a predicate free")
 
 -- that more heaps of so many individuals were met than were allowed, and what is known of fewer individuals
-abbrev pub finished_text : (cells : ℕ) → List ℕ
-finished_text zero = codes " cells\n"
-finished_text (suc fewer) =
+abbrev pub finished_text : (is_alone : Bool) → (cells : ℕ) → List ℕ
+finished_text false cells = codes " cells\n"
+finished_text true zero = codes " cells\n"
+finished_text true (suc fewer) =
     codes " cells; no witness with at most " ++ decimal fewer ++ codes " cells\n"
 
 unfoldable pub passed_text : Passed → List ℕ
 passed_text passed =
     codes "tvla-explain: more than " ++ decimal passed.states ++ codes " states with " ++ decimal passed.cells
-    ++ finished_text passed.cells
+    ++ finished_text passed.is_alone passed.cells
 
 -- why a compiled program or a completed file isn't written
 abbrev pub unwritten_text : Unwritten → List ℕ

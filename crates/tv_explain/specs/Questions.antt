@@ -2,7 +2,7 @@
 use Rattle.std.specs.Prelude.{◌≡◌, ℕ, false, List}
 use Rattle.tv_counts.specs.Counts.{IsCountsText}
 use Rattle.tv_explain.specs.Answers.{IsMessageText, IsStepText, IsStructureText, TellsOfLosses}
-use Rattle.tv_explain.specs.Answers.{TellsOfWitness}
+use Rattle.tv_explain.specs.Answers.{TellsOfWitness, TellsOfWitnesses}
 use Rattle.tv_explain.specs.Meaning.{drawn_form}
 use Rattle.tv_explain.specs.declared.fault.Answer.{Answer}
 use Rattle.tv_explain.specs.declared.inputs.Inputs.{Inputs}
@@ -23,6 +23,7 @@ command_of of asked.Losses = TellsLosses of
 command_of of (asked.Step edge) = TakesStep of edge
 command_of of asked.Counts = TellsCounts of
 command_of of (asked.Witness search) = witness_command of search
+command_of of (asked.Witnesses bounds) = TellsWitnesses of (bounds_of bounds)
 
 -- the answer is a text that is such, and tells of nothing lost
 abbrev pub IsPlain : (List ℕ → Type 0) → Answer → Type 0
@@ -39,3 +40,4 @@ IsTold of inputs asked.Counts answer =
     IsPlain (IsCountsText (drawn_form inputs) of.mode inputs.initial of.max) answer
 IsTold of inputs (asked.Witness search) answer =
     TellsOfWitness of inputs search.aim (bounds_of search.bounds) answer
+IsTold of inputs (asked.Witnesses bounds) answer = TellsOfWitnesses of inputs (bounds_of bounds) answer

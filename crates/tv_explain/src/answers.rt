@@ -8,14 +8,16 @@ ghost use Rattle.tv_model.specs.Program.{message_of, program_of};
 ghost use Rattle.tv_trail.specs.Over.{IsTrailOver};
 ghost use Rattle.tv_explain.specs.Answers.{IsMessageText, IsStepText, IsStopped, IsStructureText};
 ghost use Rattle.tv_explain.specs.Answers.{NamesNothing};
-ghost use Rattle.tv_explain.specs.Answers.{TellsOfLosses, TellsOfWitness, trail_lines};
+ghost use Rattle.tv_explain.specs.Answers.{TellsOfLosses, TellsOfWitness, TellsOfWitnesses, trail_lines};
+ghost use Rattle.tv_explain.specs.Answers.{witness_task};
+ghost use Rattle.tv_witness_text.specs.Reports.{CanSearch, task_of};
 ghost use Rattle.tv_explain.specs.Meaning.{drawn_form, heads_in};
 ghost use Rattle.tv_explain.specs.Questions.{IsTold, command_of, witness_command};
 ghost use Rattle.tv_explain.specs.Work.{AreReady, GoesOnWithSteps, IsStepsStop};
 ghost use Rattle.tv_explain_text.specs.Texts.{messages_at};
 ghost use Rattle.tv_explain_text.specs.Trails.{at_hand_line, raised_line};
 ghost use Rattle.tv_explain_words.specs.Words.{AnalyzedForm, TellsLosses, TellsMessage, TellsStructure};
-ghost use Rattle.tv_explain_words.specs.Words.{TakesStep, TellsCounts, analyzed_of, bounds_of};
+ghost use Rattle.tv_explain_words.specs.Words.{TakesStep, TellsCounts, TellsWitnesses, analyzed_of, bounds_of};
 ghost use Rattle.tv_structure_form.specs.StructureForm.{IsOver};
 
 use crate::fault::{Answer, Fault, Sought, fault_of_search, fault_of_work, plain};
@@ -24,14 +26,14 @@ use crate::question::{Question, Search};
 use std::alloc::{AllocError, Global};
 use tv_counts::counts_text;
 use tv_explain_text::{Told, append_alarm, messages_at, trail_text};
-use tv_explain_words::Analyzed;
+use tv_explain_words::{Analyzed, Bounds};
 use tv_losses_text::explain_losses;
 use tv_model::{Bytes, Message};
 use tv_stages::Stager;
 use tv_stages_text::{StageWriter, slow_steps_are_over};
 use tv_struct::Structure;
 use tv_trail::{Raised, trail_to_listed, trail_to_message};
-use tv_witness_text::{Searched, Wanted, cells_for, explain_witness};
+use tv_witness_text::{Searched, Wanted, cells_for, explain_witness, explain_witnesses};
 
 /// The text that no reached structure raises a message.
 fn no_message(alloc: Global) -> Result<Vec<u8>, AllocError>
@@ -258,6 +260,22 @@ fn losses_answer(alloc: Global, inputs: &Inputs, of: &Analyzed) -> Result<Answer
     }
 }
 
+/// Where witnesses are searched.
+fn searched_in<'a>(inputs: &'a Inputs, of: &Analyzed, bounds: &Bounds) -> Searched<'a>
+    requires { AreReady inputs.now }
+    ensures task { task_of result ≡ witness_task (analyzed_of of.now) inputs.now (bounds_of bounds.now) }
+    ensures can { CanSearch result }
+{
+    Searched {
+        program: &inputs.drawn.program,
+        heads: &inputs.drawn.heads,
+        initial: &inputs.initial,
+        mode: of.mode,
+        cells: cells_for(bounds.cells, inputs.initial.as_slice()),
+        most: u64::from(bounds.states),
+    }
+}
+
 /// What is told of the message that is searched for: a witness, or that there is none.
 #[tactic(auto, using(crate::proofs::Searches::search_lack, crate::proofs::Searches::message_of_edge))]
 fn witness_answer(
@@ -277,14 +295,7 @@ fn witness_answer(
         Ok(message) => message,
         Err(what) => return Err(Fault::NotThere(what)),
     };
-    let searched = Searched {
-        program: &inputs.drawn.program,
-        heads: &inputs.drawn.heads,
-        initial: &inputs.initial,
-        mode: of.mode,
-        cells: cells_for(bounds.cells, inputs.initial.as_slice()),
-        most: u64::from(bounds.states),
-    };
+    let searched = searched_in(inputs, of, &bounds);
     let wanted = Wanted {
         edge: aim.edge,
         number: aim.number,
@@ -292,7 +303,30 @@ fn witness_answer(
         piece: aim.piece,
     };
     match explain_witness(alloc, &searched, &wanted) {
-        Err(error) => Err(fault_of_search(error, bounds.states)),
+        Err(error) => Err(fault_of_search(error, bounds.states, true)),
+        Ok(report) => Ok(Answer {
+            text: report.text,
+            is_lost: report.is_found,
+        }),
+    }
+}
+
+/// What is told of all messages of the program: of each how short a witness it has, or that it has none.
+fn witnesses_answer(
+    alloc: Global,
+    inputs: &Inputs,
+    of: &Analyzed,
+    bounds: &Bounds,
+) -> Result<Answer, Fault>
+    requires { AreReady inputs.now }
+    ensures found { IfOk result
+        (TellsOfWitnesses (analyzed_of of.now) inputs.now (bounds_of bounds.now)) }
+    ensures cause { IfErr result (IsStopped (TellsWitnesses (analyzed_of of.now) (bounds_of bounds.now))
+        (analyzed_of of.now) inputs.now) }
+{
+    let searched = searched_in(inputs, of, bounds);
+    match explain_witnesses(alloc, &searched) {
+        Err(error) => Err(fault_of_search(error, bounds.states, false)),
         Ok(report) => Ok(Answer {
             text: report.text,
             is_lost: report.is_found,
@@ -321,5 +355,6 @@ pub fn answer(
         Question::Step { edge } => plain(step_answer(alloc, inputs, of, edge)),
         Question::Counts => plain(counts_answer(alloc, inputs, of)),
         Question::Witness(search) => witness_answer(alloc, inputs, of, &search),
+        Question::Witnesses(bounds) => witnesses_answer(alloc, inputs, of, &bounds),
     }
 }

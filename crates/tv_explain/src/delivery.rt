@@ -25,6 +25,7 @@ const USAGE: &[u8] =
        tvla-explain counts PROGRAM INITIAL [--max-structures N] [--recompute | --delta]
        tvla-explain complete PROGRAM STRUCTURES
        tvla-explain witness PROGRAM INITIAL EDGE NUMBER [--cells K] [--max-states M] [--start-only | --trace-only] [--recompute | --delta]
+       tvla-explain witnesses PROGRAM INITIAL [--cells K] [--max-states M] [--recompute | --delta]
 ";
 
 /// Gives the text that tells what isn't there to the sink; takes no memory.
@@ -103,7 +104,7 @@ fn write_passed<E: Sink>(err: &mut E, passed: Passed) -> Result<(), Failed>
 {
     let mut states = Buffer::new();
     let mut cells = Buffer::new();
-    if passed.cells == 0 {
+    if passed.cells == 0 || !passed.is_alone {
         return write_parts(
             err,
             &[

@@ -32,11 +32,12 @@ pub enum Sought {
 }
 
 /// How far a search among heaps has come: with so many individuals more than so many heaps were met, or
-/// structures split.
+/// structures split; and whether it was for one message, of which then no witness has fewer.
 #[derive(Clone, Copy, Debug, PartialEq, Eq)]
 pub struct Passed {
     pub cells: u32,
     pub states: u32,
+    pub is_alone: bool,
 }
 
 /// What a command gives: a text, and whether that tells of anything lost, as `losses` alone may do, or of a
@@ -178,13 +179,18 @@ pub fn fault_of_work(error: WorkError, max: u64) -> Fault
     }
 }
 
-/// The fault of a search that may meet so many heaps of each number of individuals.
-pub fn fault_of_search(error: Unanswered, states: u32) -> Fault
-    ensures { result ≡ fault_of_search states error }
+/// The fault of a search, for one message or for all, that may meet so many heaps of each number of
+/// individuals.
+pub fn fault_of_search(error: Unanswered, states: u32, is_alone: bool) -> Fault
+    ensures { result ≡ fault_of_search states is_alone error }
 {
     match error {
         Unanswered::Free => Fault::NotThere(Sought::Values),
-        Unanswered::TooMany(cells) => Fault::Heaps(Passed { cells, states }),
+        Unanswered::TooMany(cells) => Fault::Heaps(Passed {
+            cells,
+            states,
+            is_alone,
+        }),
         Unanswered::Memory => Fault::Memory,
     }
 }

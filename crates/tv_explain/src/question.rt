@@ -24,4 +24,6 @@ pub enum Question<'a> {
     Counts,
     /// Whether the message is true at the end of a run of small heaps.
     Witness(Search),
+    /// Whether each message of the program is true at the end of a run of small heaps.
+    Witnesses(Bounds),
 }

@@ -154,6 +154,9 @@ fn execute<F: Files>(alloc: Global, files: &mut F, command: &Command) -> Result<
             let (aim, bounds) = (*aim, *bounds);
             ask(alloc, files, of, &Question::Witness(Search { aim, bounds }))
         }
+        Command::Witnesses { of, bounds } => {
+            ask(alloc, files, of, &Question::Witnesses(*bounds))
+        }
         Command::Complete {
             program,
             structures,

@@ -14,6 +14,7 @@ losses p i;%p x( %% %%;%n;program: Syntax at 1:7
 step p i 0;%p x( %% %%;%n;program: Syntax at 1:7
 counts p i;%p x( %% %%;%n;program: Syntax at 1:7
 witness p i 0 0;%p x( %% %%;%n;program: Syntax at 1:7
+witnesses p i;%p x( %% %%;%n;program: Syntax at 1:7
 complete p i;%p x( %% %%;%n;program: Syntax at 1:7
 edges p;%s S T %% %%;;program: NameUnknown
 plan p;%r b() ==> 0 %% %%;;program: NameUnknown

@@ -64,4 +64,5 @@ tvla-explain message PROGRAM INITIAL EDGE NUMBER [--max-structures N] [--recompu
        tvla-explain counts PROGRAM INITIAL [--max-structures N] [--recompute | --delta]
        tvla-explain complete PROGRAM STRUCTURES
        tvla-explain witness PROGRAM INITIAL EDGE NUMBER [--cells K] [--max-states M] [--start-only | --trace-only] [--recompute | --delta]
+       tvla-explain witnesses PROGRAM INITIAL [--cells K] [--max-states M] [--recompute | --delta]
 ";

@@ -34,7 +34,7 @@ const MARKED: Row<'static, 'static, 'static, 'static> = Row {
     ..PLAIN
 };
 
-pub static WITNESSES: [Row<'static, 'static, 'static, 'static>; 9] = [
+pub static WITNESSES: [Row<'static, 'static, 'static, 'static>; 12] = [
     // two individuals are needed, and two steps
     Row {
         words: &["witness", "p", "i", "1", "0"],
@@ -86,6 +86,23 @@ edge 1  p:7  L0 Ask ( ) L1  message 0 is true: \"two\"
         words: &["witness", "p", "i", "1", "0", "--max-states", "2"],
         code: 4,
         err: "tvla-explain: more than 2 states with 2 cells; no witness with at most 1 cells\n",
+        ..MARKED
+    },
+    Row {
+        words: &["witnesses", "p", "i"],
+        code: 1,
+        out: "message 1 0  true with 2 cells behind 2 steps: \"two\"\n",
+        ..MARKED
+    },
+    Row {
+        words: &["witnesses", "q", "i", "--cells=2"],
+        out: "message 1 0  no witness with at most 2 cells: \"two\"\n",
+        ..MARKED
+    },
+    Row {
+        words: &["witnesses", "p", "i", "--max-states", "2"],
+        code: 4,
+        err: "tvla-explain: more than 2 states with 2 cells\n",
         ..MARKED
     },
     Row {

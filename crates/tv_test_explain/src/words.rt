@@ -63,7 +63,10 @@ witness p i 0 0 --max-states 4294967296
 witness p i 0 0 --start-only --start-only
 witness p i 0 0 --start-only --trace-only
 message p i 0 0 --start-only
-losses p i --trace-only";
+losses p i --trace-only
+witnesses p i 0
+witnesses p i --start-only
+witnesses p i --max-structures 5";
 
 /// Words that name what isn't there, and what is told of them.
 const ABSENT: &str = "message p i 4 0;no such edge

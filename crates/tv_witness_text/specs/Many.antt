@@ -12,9 +12,12 @@ use Rattle.tv_heap_search.specs.declared.fewest.Fewest.{Fewest}
 use Rattle.tv_heap_search.specs.declared.quest.Target.{Target}
 use Rattle.tv_heap_steps.specs.Settled.{AreAllSettled}
 use Rattle.tv_model.specs.declared.program.Edge.{Edge}
+use Rattle.tv_model.specs.declared.program.Mode.{Mode}
 use Rattle.tv_model.specs.Program.{MessageForm, ProgramForm, message_of, program_of}
 use Rattle.tv_witness_laws.specs.Witness as witness
-use Rattle.tv_witness_text.specs.Reports.{Task, question_along}
+use Rattle.tv_structure_form.specs.StructureForm.{StructureForm}
+use Rattle.tv_witness_laws.specs.Laws.{asks_message}
+use Rattle.tv_witness_text.specs.Reports.{Task}
 use Rattle.tv_witness_text.specs.declared.all.Place.{Place}
 use Rattle.tv_witness_text.specs.declared.answer.WitnessReport.{WitnessReport}
 
@@ -75,14 +78,16 @@ verdict_lines cells (x ∷ xs) (found ∷ founds) = verdict_line cells x found +
 -- ---- reports
 
 -- of each message a witness of fewest cells, and among these of fewest steps, or that there is none
-abbrev pub AreVerdicts : Task → List (Option Fewest) → Type 0
-AreVerdicts task founds =
-    AllZip (λ x found. AnswersFewest (question_along task x.taken x.message) found)
-    (all_placed (program_of task.program)) founds
+abbrev pub AreVerdicts : ProgramForm → Mode → (initial : List StructureForm) → (cells : ℕ)
+    → List (Option Fewest) → Type 0
+AreVerdicts p mode initial cells founds =
+    AllZip (λ x found. AnswersFewest (asks_message p mode initial cells x.taken x.message) found)
+    (all_placed p) founds
 
 -- a line for each message, and whether any has a witness
 abbrev pub IsVerdictReport : Task → WitnessReport → Type 0
-IsVerdictReport task report = (founds : List (Option Fewest)) × AreVerdicts task founds
+IsVerdictReport task report = (founds : List (Option Fewest))
+    × AreVerdicts (program_of task.program) task.mode task.initial task.cells founds
     × (report.text.items ≡ verdict_lines task.cells (all_placed (program_of task.program)) founds)
     × (IsTrue report.is_found ↔ Any IsSome founds)
 

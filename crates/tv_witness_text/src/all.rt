@@ -19,7 +19,7 @@ use tv_model::{Edge, Message, Program};
 
 /// A message where it stands: its edge and the edge's number, and its number among those of the edge's action.
 #[derive(Clone, Copy)]
-struct Place<'a> {
+pub(crate) struct Place<'a> {
     pub edge: u32,
     pub taken: Edge,
     pub number: u32,

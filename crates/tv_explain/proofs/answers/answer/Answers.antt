@@ -54,3 +54,9 @@ returns-in-Witness-clause-told c = rw c.in-Witness.is c.witness_answer.ensures.f
 
 pub returns-in-Witness-clause-cause : goal.returns-in-Witness-clause-cause
 returns-in-Witness-clause-cause c = rw c.in-Witness.is c.witness_answer.ensures.cause
+
+pub returns-in-Witnesses-clause-told : goal.returns-in-Witnesses-clause-told
+returns-in-Witnesses-clause-told c = rw c.in-Witnesses.is c.witnesses_answer.ensures.found
+
+pub returns-in-Witnesses-clause-cause : goal.returns-in-Witnesses-clause-cause
+returns-in-Witnesses-clause-cause c = rw c.in-Witnesses.is c.witnesses_answer.ensures.cause

@@ -97,3 +97,9 @@ returns-in-Witness-clause-found g c = rw c.in-Witness.is c.ask-in-Witness.ensure
 
 pub returns-in-Witness-clause-cause : goal.returns-in-Witness-clause-cause
 returns-in-Witness-clause-cause g c = rw c.in-Witness.is c.ask-in-Witness.ensures.cause
+
+pub returns-in-Witnesses-clause-found : goal.returns-in-Witnesses-clause-found
+returns-in-Witnesses-clause-found g c = rw c.in-Witnesses.is c.ask-in-Witnesses.ensures.found
+
+pub returns-in-Witnesses-clause-cause : goal.returns-in-Witnesses-clause-cause
+returns-in-Witnesses-clause-cause g c = rw c.in-Witnesses.is c.ask-in-Witnesses.ensures.cause
