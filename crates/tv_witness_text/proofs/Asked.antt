@@ -2,10 +2,10 @@
 use Rattle.std.proofs.Common.{ℕ, ◌≡◌, ◌≤◌, ◌+◌, [], Contains, arith}
 use Rattle.std.proofs.lemmas.List.Elements.{All-contains}
 use Rattle.std.proofs.lemmas.Option.{slice_get_within}
-use Rattle.std.specs.Prelude.{◌<◌, length, slice_get}
+use Rattle.std.specs.Prelude.{◌<◌, length}
 use Rattle.tv_eval.proofs.Programs.{within_height}
 use Rattle.tv_model.specs.Form.{height}
-use Rattle.tv_model.specs.Program.{ActionForm, MessageForm, ProgramForm}
+use Rattle.tv_model.specs.Program.{MessageForm, ProgramForm}
 use Rattle.tv_model.specs.Valid.{IsAction, IsFormula, IsMessage, IsOver, IsValid}
 use Rattle.tv_model.proofs.Lists.{slice_get-contains}
 use Rattle.tv_quantifiers.specs.Heights.{program_height}

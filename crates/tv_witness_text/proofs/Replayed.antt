@@ -1,23 +1,20 @@
 -- A replay of a witness goes through its heaps, whatever is listed.
-use Rattle.std.proofs.Common.{ℕ, ◌≡◌, ◌∙◌, List, [], ◌∷◌, map, Option, Some, None, All, refl, sym, ap, subst}
+use Rattle.std.proofs.Common.{ℕ, ◌≡◌, ◌∙◌, List, [], ◌∷◌, map, None, All, refl, sym, ap, subst}
 use Rattle.std.proofs.Common.{arith}
 use Rattle.std.proofs.lemmas.List.{get_or_past}
 use Rattle.std.proofs.lemmas.List.Elements.{All-cons, All-head, All-nil, All-tail}
 use Rattle.tv_heap_search.specs.Answers.{IsShortestWitness}
-use Rattle.tv_heap_search.specs.Retraced.{heaps_along, moves_of}
+use Rattle.tv_heap_search.specs.Retraced.{moves_of}
 use Rattle.tv_heap_search.specs.declared.witness.Witness.{Witness}
 use Rattle.tv_listing.specs.ListingForm.{at_node}
-use Rattle.tv_model.specs.Program.{ProgramForm, program_of}
+use Rattle.tv_model.specs.Program.{ProgramForm}
 use Rattle.tv_model.specs.Valid.{IsValid}
 use Rattle.tv_model.specs.declared.program.Mode.{Mode}
 use Rattle.tv_model.specs.declared.program.Mode.TheVariants.{Given, Recompute}
-use Rattle.tv_model.specs.declared.program.Program.{Program}
 use Rattle.tv_replay_laws.specs.Above.{IsFirstAbove, IsNotAbove}
 use Rattle.tv_replay_laws.specs.Laws.{HasOneEnding, RunsHaveOneEnding}
-use Rattle.tv_replay_laws.specs.States.{AreNextStates, IsFirstState, IsNextState, IsReplay}
-use Rattle.tv_replay_laws.specs.Stuck.{IsStuck}
+use Rattle.tv_replay_laws.specs.States.{AreNextStates, IsNextState, IsReplay}
 use Rattle.tv_replay_laws.specs.declared.state.State.{State}
-use Rattle.tv_replay_laws.specs.declared.state.Why.{Why}
 use Rattle.tv_structure_form.specs.StructureForm.{StructureForm}
 use Rattle.tv_trace.specs.declared.trace.Move.{Move}
 use Rattle.tv_trace_text.specs.Laws.{TracesAreReadAgain}

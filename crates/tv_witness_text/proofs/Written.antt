@@ -1,12 +1,11 @@
 -- The start heap and the steps of a witness are read as they are written.
-use Rattle.std.proofs.Common.{ℕ, ◌≡◌, ◌<◌, ◌≤◌, ◌^◌, ◌∙◌, List, [], ◌∷◌, map, length, drop, Option, Some, None}
+use Rattle.std.proofs.Common.{ℕ, ◌≡◌, ◌<◌, ◌≤◌, ◌^◌, ◌∙◌, List, [], ◌∷◌, map, length, Option, Some, None}
 use Rattle.std.proofs.Common.{Ok, sym, ap, subst, arith}
-use Rattle.std.specs.Prelude.{All, Contains, IfSome}
+use Rattle.std.specs.Prelude.{All, IfSome}
 use Rattle.std.proofs.lemmas.List.Elements.{All-cons, All-head, All-nil, All-tail, All-weaker}
 use Rattle.std.proofs.lemmas.Option.{slice_get_within}
-use Rattle.tv_heap_search.specs.Answers.{IsShortestWitness, IsShown}
+use Rattle.tv_heap_search.specs.Answers.{IsShortestWitness}
 use Rattle.tv_heap_search.specs.Retraced.{HasValuesFor, moves_of}
-use Rattle.tv_heap_search.specs.declared.retrace.Leg.{Leg}
 use Rattle.tv_heap_search.specs.declared.witness.Witness.{Witness}
 use Rattle.tv_lex.specs.Pieces.{Reads}
 use Rattle.tv_lex.specs.Token.{spec_tokens}
