@@ -67,7 +67,7 @@ part_counts kind n part s t h =
     subst (λ (ps : List PartForm). count_of_kind kind ps ≡ count_of_kind kind s.parts + one_of_kind kind part) same (count_push kind s.parts part)
 
 gathered_counts : (kind : PartKind) (sets : Sets) (b : Binding) (part : PartForm) (s t : Gathered) → gathered sets b part s ≡ Ok t → count_of_kind kind t.parts ≡ count_of_kind kind s.parts + one_of_kind kind part
-gathered_counts kind sets b (PCaption ps) s t h = rw (same_caption kind ps (one_text b ps)) (part_counts kind 0 (PCaption (one_text b ps)) s t h)
+gathered_counts kind sets b (PCaption ps) s t h = rw (same_caption kind ps []) (part_counts kind 0 (PCaption []) s t h)
 gathered_counts kind sets b (PFocus fs) s t h = rw (same_focus kind fs (map (flat_form b) fs)) (part_counts kind (sum_by nodes fs) (PFocus (map (flat_form b) fs)) s t h)
 gathered_counts kind sets b (PPre f) s t h = rw (same_pre kind f (flat_form b f)) (part_counts kind (nodes f) (PPre (flat_form b f)) s t h)
 gathered_counts kind sets b (PMessage f ps) s t h = rw (same_message kind f (flat_form b f) ps (one_text b ps)) (part_counts kind (nodes f) (PMessage (flat_form b f) (one_text b ps)) s t h)

@@ -16,7 +16,7 @@ use Rattle.tv_expand.specs.Outcome.{each}
 use Rattle.tv_expand.specs.Sets.{Sets, find_set, known, with_members, without_members, members_of}
 use Rattle.tv_expand.specs.Idle.{is_declared_set, is_none, is_known_empty, is_empty_set, is_empty_step}
 use Rattle.tv_expand.specs.Idle.{is_idle_nest, is_idle}
-use Rattle.tv_expand.specs.Views.{names_of, WordSet, sets_of}
+use Rattle.tv_expand.specs.Views.{names_of, SharedSet, sets_of}
 use Rattle.tv_expand.proofs.SetLaws.{found_set}
 use Rattle.std.proofs.Math.Dec.{eqb-suc-zero}
 use Rattle.std.specs.Map.{lookup}
@@ -99,10 +99,10 @@ pub no_words : (words : List (Bor (List ℕ))) → (length words == 0) ≡ is_no
 no_words [] = refl
 no_words (x ∷ xs) = eqb-suc-zero (length xs)
 
-pub empty_found : (entries : List (Bor (List ℕ) × WordSet)) (name : List ℕ) (w : WordSet) → ◌≡◌ {A = Option WordSet} (Some w) (lookup (λ (k : Bor (List ℕ)). bytes_eq name k.now) entries) → is_known_empty (find_set (sets_of entries) name) ≡ is_none (names_of w.keys)
+pub empty_found : (entries : List (Bor (List ℕ) × SharedSet)) (name : List ℕ) (w : SharedSet) → ◌≡◌ {A = Option SharedSet} (Some w) (lookup (λ (k : Bor (List ℕ)). bytes_eq name k.now) entries) → is_known_empty (find_set (sets_of entries) name) ≡ is_none (names_of w.value.keys)
 empty_found entries name w is = rw (found_set entries name, ← is) refl
 
-pub empty_none : (entries : List (Bor (List ℕ) × WordSet)) (name : List ℕ) → ◌≡◌ {A = Option WordSet} None (lookup (λ (k : Bor (List ℕ)). bytes_eq name k.now) entries) → is_known_empty (find_set (sets_of entries) name) ≡ false
+pub empty_none : (entries : List (Bor (List ℕ) × SharedSet)) (name : List ℕ) → ◌≡◌ {A = Option SharedSet} None (lookup (λ (k : Bor (List ℕ)). bytes_eq name k.now) entries) → is_known_empty (find_set (sets_of entries) name) ≡ false
 empty_none entries name is = rw (found_set entries name, ← is) refl
 
 -- a further set whose names are declared

@@ -334,7 +334,7 @@ part_takes n part s t single size h =
 
 gathered_takes : (sets : Sets) (b : Binding) (part : PartForm) (s t : Gathered)
     → gathered sets b part s ≡ Ok t → GatheredTakes (gathered sets b part) s t
-gathered_takes sets b (PCaption ps) s t h = part_takes 0 (PCaption (one_text b ps)) s t refl refl h
+gathered_takes sets b (PCaption ps) s t h = part_takes 0 (PCaption []) s t refl refl h
 gathered_takes sets b (PFocus fs) s t h = part_takes (sum_by nodes fs) (PFocus (map (flat_form b) fs)) s t
     refl (sum_same b fs) h
 gathered_takes sets b (PPre f) s t h = part_takes (nodes f) (PPre (flat_form b f)) s t refl (nodes_same b f) h

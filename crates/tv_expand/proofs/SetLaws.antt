@@ -5,7 +5,7 @@ use Rattle.std.specs.Option.{option_map}
 use Rattle.std.specs.Str.{bytes_eq}
 use Rattle.std.specs.Map.{lookup}
 use Rattle.std.proofs.lemmas.List.{drop_more}
-use Rattle.tv_tree.specs.Forms.{SetForm, SPlus, SMinus}
+use Rattle.tv_tree.specs.Forms.{SetForm, SNamed, SPlus, SMinus}
 use Rattle.tv_tree.specs.Copies.{term_of, step_of, set_of, joined_set}
 use Rattle.tv_tree.specs.declared.trees.SetSign.{SetSign}
 use Rattle.tv_tree.specs.declared.trees.SetSign.TheVariants as sign
@@ -20,7 +20,7 @@ use Rattle.tv_expand.specs.declared.error.ExpandError.TheVariants.{TooManyItems,
 use Rattle.tv_expand.specs.Outcome.{◌>>=◌, FailsExpansion}
 use Rattle.tv_flat.specs.Replaced.{Binding}
 use Rattle.tv_expand.specs.Sets.{Sets, find_set, known, members_of}
-use Rattle.tv_expand.specs.Views.{names_of, WordSet, entry_of, sets_of, signed, step_members}
+use Rattle.tv_expand.specs.Views.{names_of, SharedSet, entry_of, sets_of, signed, step_members}
 use Rattle.tv_lemmas.proofs.Options.{is_some-map}
 
 -- a refusal stays one, whatever would come behind it
@@ -75,29 +75,35 @@ further_fails sets b xs more i s e below is h =
 pub set_members : (sets : Sets) (b : Binding) (s : SetTree) → members_of sets b (set_of s) ≡ (members_of sets b (term_of (out-SetTree s).first) >>= λ xs. further_sets sets b xs (map step_of (out-SetTree s).more.items))
 set_members sets b s = ap (members_of sets b) (set_of_steps s) ∙ joined_members sets b (term_of (out-SetTree s).first) (map step_of (out-SetTree s).more.items)
 
+-- an expression that is a name alone
+pub named_alone : (s : SetTree) (name : List ℕ) → (out-SetTree s).more.items ≡ []
+    → term_of (out-SetTree s).first ≡ SNamed name → set_of s ≡ SNamed name
+named_alone s name none first =
+    set_of_steps s ∙ ap (λ xs. joined_set (term_of (out-SetTree s).first) (map step_of xs)) none ∙ first
+
 -- a set that is looked up
-pub found_set : (entries : List (Bor (List ℕ) × WordSet)) (name : List ℕ) → find_set (sets_of entries) name ≡ option_map (λ (s : WordSet). names_of s.keys) (lookup (λ (k : Bor (List ℕ)). bytes_eq name k.now) entries)
+pub found_set : (entries : List (Bor (List ℕ) × SharedSet)) (name : List ℕ) → find_set (sets_of entries) name ≡ option_map (λ (s : SharedSet). names_of s.value.keys) (lookup (λ (k : Bor (List ℕ)). bytes_eq name k.now) entries)
 found_set [] name = refl
 found_set (e ∷ entries) name = by (bytes_eq name e.0.now) (found_set entries name)
   where
-    by : (t : Bool) → find_set (sets_of entries) name ≡ option_map (λ (s : WordSet). names_of s.keys) (lookup (λ (k : Bor (List ℕ)). bytes_eq name k.now) entries) → cond t (Some (names_of e.1.keys)) (find_set (sets_of entries) name) ≡ option_map (λ (s : WordSet). names_of s.keys) (cond t (Some e.1) (lookup (λ (k : Bor (List ℕ)). bytes_eq name k.now) entries))
+    by : (t : Bool) → find_set (sets_of entries) name ≡ option_map (λ (s : SharedSet). names_of s.value.keys) (lookup (λ (k : Bor (List ℕ)). bytes_eq name k.now) entries) → cond t (Some (names_of e.1.value.keys)) (find_set (sets_of entries) name) ≡ option_map (λ (s : SharedSet). names_of s.value.keys) (cond t (Some e.1) (lookup (λ (k : Bor (List ℕ)). bytes_eq name k.now) entries))
     by true rest = refl
     by false rest = rest
 
-pub set_there : (entries : List (Bor (List ℕ) × WordSet)) (name : List ℕ) → is_some (lookup (λ (k : Bor (List ℕ)). bytes_eq name k.now) entries) ≡ is_some (find_set (sets_of entries) name)
-set_there entries name = rw (found_set entries name) (is_some-map (λ (s : WordSet). names_of s.keys) (lookup (λ (k : Bor (List ℕ)). bytes_eq name k.now) entries))
+pub set_there : (entries : List (Bor (List ℕ) × SharedSet)) (name : List ℕ) → is_some (lookup (λ (k : Bor (List ℕ)). bytes_eq name k.now) entries) ≡ is_some (find_set (sets_of entries) name)
+set_there entries name = rw (found_set entries name) (is_some-map (λ (s : SharedSet). names_of s.value.keys) (lookup (λ (k : Bor (List ℕ)). bytes_eq name k.now) entries))
 
-pub known_found : (entries : List (Bor (List ℕ) × WordSet)) (name : List ℕ) (w : WordSet) → ◌≡◌ {A = Option WordSet} (Some w) (lookup (λ (k : Bor (List ℕ)). bytes_eq name k.now) entries) → known (find_set (sets_of entries) name) ≡ Ok (names_of w.keys)
+pub known_found : (entries : List (Bor (List ℕ) × SharedSet)) (name : List ℕ) (w : SharedSet) → ◌≡◌ {A = Option SharedSet} (Some w) (lookup (λ (k : Bor (List ℕ)). bytes_eq name k.now) entries) → known (find_set (sets_of entries) name) ≡ Ok (names_of w.value.keys)
 known_found entries name w is = rw (found_set entries name, ← is) refl
 
-pub known_none : (entries : List (Bor (List ℕ) × WordSet)) (name : List ℕ) → ◌≡◌ {A = Option WordSet} None (lookup (λ (k : Bor (List ℕ)). bytes_eq name k.now) entries) → known (find_set (sets_of entries) name) ≡ Err NameUnknown
+pub known_none : (entries : List (Bor (List ℕ) × SharedSet)) (name : List ℕ) → ◌≡◌ {A = Option SharedSet} None (lookup (λ (k : Bor (List ℕ)). bytes_eq name k.now) entries) → known (find_set (sets_of entries) name) ≡ Err NameUnknown
 known_none entries name is = rw (found_set entries name, ← is) refl
 
 -- a set that is put behind the others
-pub added_set : (entries : List (Bor (List ℕ) × WordSet)) (name : Bor (List ℕ)) (w : WordSet) → is_some (find_set (sets_of entries) name.now) ≡ false → sets_of (insert_entry (λ (x y : Bor (List ℕ)). bytes_eq x.now y.now) entries name w) ≡ sets_of entries ++ (name.now, names_of w.keys) ∷ []
+pub added_set : (entries : List (Bor (List ℕ) × SharedSet)) (name : Bor (List ℕ)) (w : SharedSet) → is_some (find_set (sets_of entries) name.now) ≡ false → sets_of (insert_entry (λ (x y : Bor (List ℕ)). bytes_eq x.now y.now) entries name w) ≡ sets_of entries ++ (name.now, names_of w.value.keys) ∷ []
 added_set [] name w new = refl
 added_set (e ∷ entries) name w new = by (bytes_eq name.now e.0.now) new (added_set entries name w)
   where
-    by : (t : Bool) → is_some (cond t (Some (names_of e.1.keys)) (find_set (sets_of entries) name.now)) ≡ false → (is_some (find_set (sets_of entries) name.now) ≡ false → sets_of (insert_entry (λ (x y : Bor (List ℕ)). bytes_eq x.now y.now) entries name w) ≡ sets_of entries ++ (name.now, names_of w.keys) ∷ []) → sets_of (cond t ((e.0, w) ∷ entries) (e ∷ insert_entry (λ (x y : Bor (List ℕ)). bytes_eq x.now y.now) entries name w)) ≡ entry_of e ∷ (sets_of entries ++ (name.now, names_of w.keys) ∷ [])
+    by : (t : Bool) → is_some (cond t (Some (names_of e.1.value.keys)) (find_set (sets_of entries) name.now)) ≡ false → (is_some (find_set (sets_of entries) name.now) ≡ false → sets_of (insert_entry (λ (x y : Bor (List ℕ)). bytes_eq x.now y.now) entries name w) ≡ sets_of entries ++ (name.now, names_of w.value.keys) ∷ []) → sets_of (cond t ((e.0, w) ∷ entries) (e ∷ insert_entry (λ (x y : Bor (List ℕ)). bytes_eq x.now y.now) entries name w)) ≡ entry_of e ∷ (sets_of entries ++ (name.now, names_of w.value.keys) ∷ [])
     by true h rest = absurd cc
     by false h rest = ap (λ es. entry_of e ∷ es) (rest h)

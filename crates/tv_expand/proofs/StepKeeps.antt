@@ -1,6 +1,6 @@
 -- What each step keeps: what is taken up is spelled.
 use Rattle.std.proofs.Common.{◌≡◌, ℕ, ◌+◌, Bool, true, false, cond, List, [], ◌∷◌, ◌++◌, map, subst, Result}
-use Rattle.std.proofs.Common.{Ok, Err}
+use Rattle.std.proofs.Common.{Ok, Err, refl}
 use Rattle.std.specs.Prelude.{All, sum_by, is_some}
 use Rattle.std.proofs.lemmas.List.Elements.{All-nil, All-head, All-tail, All-push}
 use Rattle.tv_model.specs.Spelling.{IsIdentifier}
@@ -84,7 +84,7 @@ part_keeps n part s t ok p h =
     subst AreFlatParts same (All-push IsFlatPart s.parts part p ok)
 
 pub gathered_keeps : (sets : Sets) (b : Binding) (part : PartForm) (s t : Gathered) → AreGoodSets sets → IsGoodBinding b → IsSpelledPart part → AreFlatParts s → gathered sets b part s ≡ Ok t → AreFlatParts t
-gathered_keeps sets b (PCaption ps) s t known good ok p h = part_keeps 0 (PCaption (one_text b ps)) s t (joined_good b ps good ok) p h
+gathered_keeps sets b (PCaption ps) s t known good ok p h = part_keeps 0 (PCaption []) s t refl p h
 gathered_keeps sets b (PFocus fs) s t known good ok p h = part_keeps (sum_by nodes fs) (PFocus (map (flat_form b) fs)) s t (forms_good b fs good ok) p h
 gathered_keeps sets b (PPre f) s t known good ok p h = part_keeps (nodes f) (PPre (flat_form b f)) s t (form_good b f good ok) p h
 gathered_keeps sets b (PMessage f ps) s t known good ok p h = part_keeps (nodes f) (PMessage (flat_form b f) (one_text b ps)) s t (form_good b f good ok.0, joined_good b ps good ok.1) p h

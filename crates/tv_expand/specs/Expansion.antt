@@ -111,7 +111,7 @@ abbrev pub with_block : Gathered → Block → Gathered
 with_block s block = record { parts = s.parts ++ PBlock (nests block.updates) ∷ []; room = block.room }
 
 abbrev pub gathered : Sets → Binding → PartForm → Gathered → Result Gathered ExpandError
-gathered sets b (PCaption ps) s = with_part 0 (PCaption (one_text b ps)) s
+gathered sets b (PCaption ps) s = with_part 0 (PCaption []) s
 gathered sets b (PFocus fs) s = with_part (sum_by nodes fs) (PFocus (map (flat_form b) fs)) s
 gathered sets b (PPre f) s = with_part (nodes f) (PPre (flat_form b f)) s
 gathered sets b (PMessage f ps) s = with_part (nodes f) (PMessage (flat_form b f) (one_text b ps)) s

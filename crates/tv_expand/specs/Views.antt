@@ -1,9 +1,10 @@
 -- What the working values of the code stand for, without where their words lie in memory.
 use Rattle.std.specs.Prelude.{ℕ, List, map, Result, Ok}
 use Rattle.std.specs.Borrow.{Bor}
-use Rattle.std.specs.Global.{Vec}
+use Rattle.std.specs.Global.{Global, Vec}
 use Rattle.std.specs.declared.hash.FoldHasher.{FoldHasher}
 use Rattle.std.specs.declared.hash.BuildHasherDefault.{BuildHasherDefault}
+use Rattle.std_alloc.specs.declared.rc.counts.Rc.{Rc}
 use Rattle.indexmap.specs.IndexSet.{IndexSet}
 use Rattle.tv_tree.specs.declared.trees.ActionTree.{ActionTree}
 use Rattle.tv_tree.specs.declared.trees.SetSign.{SetSign}
@@ -20,10 +21,14 @@ use Rattle.tv_expand.specs.Sets.{Sets, with_members, without_members, members_of
 abbrev pub WordSet : Type 0
 WordSet = IndexSet (Bor (List ℕ)) (BuildHasherDefault FoldHasher)
 
-abbrev pub entry_of : Bor (List ℕ) × WordSet → List ℕ × List (List ℕ)
-entry_of e = (e.0.now, names_of e.1.keys)
+-- a set that several names may share
+abbrev pub SharedSet : Type 0
+SharedSet = Rc WordSet Global
 
-abbrev pub sets_of : List (Bor (List ℕ) × WordSet) → Sets
+abbrev pub entry_of : Bor (List ℕ) × SharedSet → List ℕ × List (List ℕ)
+entry_of e = (e.0.now, names_of e.1.value.keys)
+
+abbrev pub sets_of : List (Bor (List ℕ) × SharedSet) → Sets
 sets_of entries = map entry_of entries
 
 -- a set, with a further one put in or taken out

@@ -13,7 +13,7 @@ use crate::apart::are_apart_updates;
 use crate::error::ExpandError;
 use crate::idle::is_idle_update;
 use crate::room::Room;
-use crate::sets::{Sets, members};
+use crate::sets::{Sets, shared_members};
 use std::alloc::Global;
 use tv_flat::{Scope, bind, flat_update};
 use tv_tree::trees::{FormulaTree, Name, Spelling, UpdateTree, UpdateTrees};
@@ -114,7 +114,7 @@ fn put_update<'a>(
             members: set,
             body,
         } => {
-            let words = members(alloc, sets, binding, set)?;
+            let words = shared_members(alloc, sets, binding, set)?;
             put_each(alloc, sets, state, binding, var, words.as_slice(), body)
         }
     }

@@ -18,7 +18,7 @@ use crate::error::ExpandError;
 use crate::idle::is_idle_decl;
 use crate::marks::{behind_decl, first_mark};
 use crate::room::Room;
-use crate::sets::{Sets, add_set, is_declared, members};
+use crate::sets::{Sets, add_set, is_declared, shared_members};
 use indexmap::IndexMap;
 use std::alloc::Global;
 use tv_flat::{MAX_ITEMS, MAX_NODES, Scope, bind, flat_pred, flat_rule, with_params};
@@ -81,7 +81,7 @@ fn declare_set<'a>(
     if is_declared(&state.sets, &name.0) {
         return Err(ExpandError::NameTwice);
     }
-    let found = members(alloc, &state.sets, binding, set)?;
+    let found = shared_members(alloc, &state.sets, binding, set)?;
     add_set(&mut state.sets, &name.0, found)?;
     Ok(())
 }
@@ -191,7 +191,7 @@ fn declare<'a>(
             members: set,
             body,
         } => {
-            let words = members(alloc, &state.sets, binding, set)?;
+            let words = shared_members(alloc, &state.sets, binding, set)?;
             declare_each(alloc, state, binding, var, words.as_slice(), marks, body)
         }
     }

@@ -1,6 +1,6 @@
 //! The parts of an action with its parameters put in.
 
-ghost use Rattle.std.specs.Prelude.{◌≡◌, map, sum_by};
+ghost use Rattle.std.specs.Prelude.{◌≡◌, [], map, sum_by};
 ghost use Rattle.tv_tree.specs.Forms.{PCaption, PFocus, PPre, PMessage, PNew, PRetain, PBlock};
 ghost use Rattle.tv_tree.specs.Copies.{form_of, piece_of, updates_of, part_of};
 ghost use Rattle.tv_expand.specs.Outcome.{GivesExpansion, each};
@@ -17,6 +17,7 @@ use crate::room::Room;
 use crate::sets::Sets;
 use std::alloc::Global;
 use tv_flat::{Scope, flat_formula, flat_formulas, one_text};
+use tv_tree::Items;
 use tv_tree::trees::{FormulaTree, Part, Piece, UpdateTrees};
 
 /// The parts of a flat action so far.
@@ -26,18 +27,13 @@ pub struct Gathered {
     pub room: Room,
 }
 
-fn put_caption(
-    alloc: Global,
-    state: &mut Gathered,
-    binding: &Scope<'_, '_>,
-    pieces: &[Piece],
-) -> Result<(), ExpandError>
-    ensures { GivesExpansion (λ _. gathered_of state.new) result (with_part 0
-        (PCaption (one_text (binding_of binding.now) (map piece_of pieces.now))) (gathered_of state.old)) }
+/// A caption has no effect: it counts, and its text isn't made.
+fn put_caption(alloc: Global, state: &mut Gathered) -> Result<(), ExpandError>
+    ensures { GivesExpansion (λ _. gathered_of state.new) result
+        (with_part 0 (PCaption []) (gathered_of state.old)) }
 {
     let room = state.room.count_none()?;
-    let text = one_text(alloc, binding, pieces)?;
-    state.parts.push(Part::Caption(text))?;
+    state.parts.push(Part::Caption(Items::new(alloc)))?;
     state.room = room;
     Ok(())
 }
@@ -155,7 +151,7 @@ fn put_part<'a>(
         (binding_of binding.now) (part_of part.now) (gathered_of state.old)) }
 {
     match part {
-        Part::Caption(pieces) => put_caption(alloc, state, binding, pieces.as_slice()),
+        Part::Caption(_) => put_caption(alloc, state),
         Part::Focus(formulas) => put_focus(alloc, state, binding, formulas.as_slice()),
         Part::Pre(f) => put_pre(alloc, state, binding, f),
         Part::Message { cond, text } => put_message(alloc, state, binding, cond, text.as_slice()),

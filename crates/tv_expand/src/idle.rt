@@ -58,7 +58,7 @@ fn is_known_empty(sets: &Sets<'_>, name: &[u8]) -> bool
     ensures { result ≡ is_known_empty (find_set (sets_of sets.now.entries) name.now) }
 {
     match sets.get(name) {
-        Some(words) => has_none(words),
+        Some(words) => has_none(words.as_ref()),
         None => false,
     }
 }

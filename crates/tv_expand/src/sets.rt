@@ -1,7 +1,8 @@
 //! The members of expressions for sets.
 
-ghost use Rattle.std.specs.Prelude.{◌≡◌, [], ◌∷◌, ◌++◌, map, false, is_some, Ok, OnOk};
+ghost use Rattle.std.specs.Prelude.{◌≡◌, [], ◌∷◌, ◌++◌, map, false, is_some, IfSome, Ok, OnOk};
 ghost use Rattle.tv_tree.specs.Copies.{term_of, set_of};
+ghost use Rattle.tv_tree.specs.Forms.{SNamed};
 ghost use Rattle.tv_expand.specs.Outcome.{GivesExpansion};
 ghost use Rattle.tv_flat.specs.Replaced.{replaced};
 ghost use Rattle.tv_expand.specs.Sets.{find_set, known, members_of, with_members};
@@ -12,14 +13,15 @@ use crate::error::ExpandError;
 use crate::words::{Words, add_replaced, signed};
 use indexmap::{IndexMap, IndexSet};
 use std::alloc::{AllocError, Global};
+use std::rc::Rc;
 use tv_flat::Scope;
 use tv_tree::trees::{SetStep, SetTerm, SetTree, Spelling};
 
-/// The sets that are declared so far, each with its members.
-pub type Sets<'a> = IndexMap<&'a [u8], Words<'a>>;
+/// The sets that are declared so far, each with its members. Names that stand for one set share these.
+pub type Sets<'a> = IndexMap<&'a [u8], Rc<Words<'a>>>;
 
-fn find_set<'s, 'a>(sets: &'s Sets<'a>, name: &[u8]) -> Result<&'s Words<'a>, ExpandError>
-    ensures { GivesExpansion (λ found. names_of found.now.keys) result
+fn find_set<'s, 'a>(sets: &'s Sets<'a>, name: &[u8]) -> Result<&'s Rc<Words<'a>>, ExpandError>
+    ensures { GivesExpansion (λ found. names_of found.now.value.keys) result
         (known (find_set (sets_of sets.now.entries) name.now)) }
 {
     match sets.get(name) {
@@ -32,7 +34,7 @@ fn known_members<'a>(sets: &Sets<'a>, name: &[u8]) -> Result<Words<'a>, ExpandEr
     ensures { GivesExpansion (λ found. names_of found.keys) result
         (known (find_set (sets_of sets.now.entries) name.now)) }
 {
-    Ok(find_set(sets, name)?.clone()?)
+    Ok(find_set(sets, name)?.as_ref().clone()?)
 }
 
 fn replaced_members<'a>(
@@ -80,7 +82,7 @@ fn with_step<'a>(
         (binding_of binding.now) (names_of found.entry.keys) (step.now.sign, term_of step.now.term)) }
 {
     match &step.term {
-        SetTerm::Named(name) => { Ok(signed(alloc, found, step.sign, find_set(sets, &name.0)?)?) }
+        SetTerm::Named(name) => { Ok(signed(alloc, found, step.sign, find_set(sets, &name.0)?.as_ref())?) }
         SetTerm::Members(words) => {
             let other = replaced_members(alloc, binding, words.as_slice())?;
             Ok(signed(alloc, found, step.sign, &other)?)
@@ -113,6 +115,39 @@ pub fn members<'a>(
     Ok(found)
 }
 
+/// The name, where the expression is a name alone.
+fn named(set: &SetTree) -> Option<&Spelling>
+    ensures { IfSome result (λ name. set_of set.now ≡ SNamed name.now) }
+{
+    if !set.more.is_empty() {
+        return None;
+    }
+    match &set.first {
+        SetTerm::Named(name) => Some(name),
+        _ => None,
+    }
+}
+
+/// The same; a set that is named alone shares its members.
+///
+/// # Errors
+/// `NameUnknown` exactly where it names a set that isn't declared.
+pub fn shared_members<'a>(
+    alloc: Global,
+    sets: &Sets<'a>,
+    binding: &Scope<'_, 'a>,
+    set: &'a SetTree,
+) -> Result<Rc<Words<'a>>, ExpandError>
+    ensures { GivesExpansion (λ found. names_of found.value.keys) result
+        (members_of (sets_of sets.now.entries) (binding_of binding.now) (set_of set.now)) }
+{
+    if let Some(name) = named(set) {
+        return Ok(find_set(sets, &name.0)?.clone()?);
+    }
+    let found = members(alloc, sets, binding, set)?;
+    Ok(Rc::new(alloc, found)?)
+}
+
 /// Whether a set of this name is declared.
 pub fn is_declared(sets: &Sets<'_>, name: &[u8]) -> bool
     ensures { result ≡ is_some (find_set (sets_of sets.now.entries) name.now) }
@@ -121,10 +156,14 @@ pub fn is_declared(sets: &Sets<'_>, name: &[u8]) -> bool
 }
 
 /// Declares a set of a new name.
-pub fn add_set<'a>(sets: &mut Sets<'a>, name: &'a [u8], words: Words<'a>) -> Result<(), AllocError>
+pub fn add_set<'a>(
+    sets: &mut Sets<'a>,
+    name: &'a [u8],
+    words: Rc<Words<'a>>,
+) -> Result<(), AllocError>
     requires { is_some (find_set (sets_of sets.old.entries) name.now) ≡ false }
     ensures { OnOk result
-        (sets_of sets.new.entries ≡ sets_of sets.old.entries ++ (name.now, names_of words.entry.keys) ∷ []) }
+        (sets_of sets.new.entries ≡ sets_of sets.old.entries ++ (name.now, names_of words.value.keys) ∷ []) }
 {
     sets.insert(name, words)?;
     Ok(())

@@ -1,5 +1,5 @@
 -- The flat form of a program as plain data, and what the next stage rests on.
-use Rattle.std.specs.Prelude.{ℕ, ◌+◌, ◌<◌, ◌≤◌, ⊤, List, [], ◌∷◌, ◌++◌, Option, Some, None, length, map}
+use Rattle.std.specs.Prelude.{ℕ, ◌≡◌, ◌+◌, ◌<◌, ◌≤◌, ⊤, List, [], ◌∷◌, ◌++◌, Option, Some, None, length, map}
 use Rattle.std.specs.Prelude.{sum_by, All}
 use Rattle.tv_model.specs.Spelling.{IsWord, IsText}
 use Rattle.tv_tree.specs.Forms.{Form, FParen, FNot}
@@ -122,7 +122,7 @@ IsFlatBlock (with_nest (Single u) us) = IsSpelledUpdate u × IsFlatBlock us
 IsFlatBlock (with_nest (Foreach var members body) us) = ⊥
 
 abbrev pub IsFlatPart : PartForm → Type 0
-IsFlatPart (PCaption ps) = IsOneText ps
+IsFlatPart (PCaption ps) = ps ≡ []
 IsFlatPart (PFocus fs) = All IsSpelledForm fs
 IsFlatPart (PPre f) = IsSpelledForm f
 IsFlatPart (PMessage f ps) = IsSpelledForm f × IsOneText ps
@@ -139,8 +139,8 @@ IsFlatEdge actions e = IsWord e.from × (e.action < actions) × IsWord e.to
 -- ---- what the next stage rests on
 
 -- the limits are kept; each name is final and well spelled, and so are node words and texts; each action has
--- each kind of part other than the message at most once, its captions and messages are one text each, and its
--- block has no foreach; and the action of each edge is there
+-- each kind of part other than the message at most once, its captions are empty, its messages are one text
+-- each, and its block has no foreach; and the action of each edge is there
 pub record IsFlat (f : FlatForm) : Type 0 where
   pub items : item_count f ≤ max_items
   pub nodes : node_count f ≤ max_nodes

@@ -29,7 +29,7 @@ pub fn spelling(alloc: Global, bytes: &[u8]) -> Result<Spelling, AllocError>
 fn copy_words(alloc: Global, words: &[Spelling]) -> Result<Spellings, AllocError>
     ensures { IfOk result (λ copy. copy ≡ words.now) }
 {
-    let mut copy = Vec::new(alloc);
+    let mut copy = Vec::with_capacity(alloc, words.len())?;
     for word in words {
         copy.push(spelling(alloc, &word.0)?)?;
     }
@@ -54,7 +54,7 @@ fn flat_words(
 ) -> Result<Spellings, AllocError>
     ensures { IfOk result (λ copy. copy ≡ map (replaced (binding_of binding.now)) words.now) }
 {
-    let mut copy = Vec::new(alloc);
+    let mut copy = Vec::with_capacity(alloc, words.len())?;
     for word in words {
         copy.push(flat_word(alloc, binding, word)?)?;
     }
@@ -264,7 +264,7 @@ pub fn flat_formulas(
     ensures { IfOk result
         (λ copy. map form_of copy ≡ map (flat_form (binding_of binding.now)) (map form_of formulas.now)) }
 {
-    let mut copy = Vec::new(alloc);
+    let mut copy = Vec::with_capacity(alloc, formulas.len())?;
     for formula in formulas {
         copy.push(flat_formula(alloc, binding, formula)?)?;
     }
@@ -289,7 +289,7 @@ fn flat_body(
 fn copy_props(alloc: Global, props: &[PropWord]) -> Result<PropWords, AllocError>
     ensures { IfOk result (λ copy. copy ≡ props.now) }
 {
-    let mut copy = Vec::new(alloc);
+    let mut copy = Vec::with_capacity(alloc, props.len())?;
     for prop in props {
         copy.push(*prop)?;
     }
@@ -367,7 +367,7 @@ fn joined(alloc: Global, binding: &Scope<'_, '_>, pieces: &[Piece]) -> Result<Sp
     Ok(Spelling(text))
 }
 
-/// The pieces of a caption or a message, joined to one text.
+/// The pieces of a message, joined to one text.
 pub fn one_text(
     alloc: Global,
     binding: &Scope<'_, '_>,
@@ -376,7 +376,7 @@ pub fn one_text(
     ensures { IfOk result
         (λ text. map piece_of text ≡ one_text (binding_of binding.now) (map piece_of pieces.now)) }
 {
-    let mut text = Vec::new(alloc);
+    let mut text = Vec::with_capacity(alloc, 1)?;
     text.push(Piece::Text(joined(alloc, binding, pieces)?))?;
     Ok(Items::from_vec(text))
 }

@@ -9,8 +9,8 @@ pub type FlatPreds = Items<PredDecl>;
 /// Rules, in the order of the text.
 pub type FlatRules = Items<RuleDecl>;
 
-/// An action with its parameters put in. Its captions and messages are one text each, and its block
-/// has no `Foreach`.
+/// An action with its parameters put in. Its captions are empty, since they have no effect, its messages are
+/// one text each, and its block has no `Foreach`.
 #[derive(Drop, Debug)]
 pub struct FlatAction {
     pub parts: Parts,

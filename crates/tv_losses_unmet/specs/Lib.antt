@@ -1,3 +1,4 @@
 pub mod Unmet
 pub mod Alone
 pub mod Kept
+pub mod Answered

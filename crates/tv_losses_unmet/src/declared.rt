@@ -6,6 +6,7 @@ ghost use Rattle.tv_model.specs.Valid.{IsValid};
 ghost use Rattle.tv_structure_form.specs.StructureForm.{IsOver};
 ghost use Rattle.tv_losses_unmet.specs.Unmet.{IsFirstOf, IsFound, IsUnmetByEach};
 
+use crate::answers::Answers;
 use crate::claim::Claim;
 use crate::closed::{closed_preds, closed_rules};
 use crate::trial::{Asked, first_to_drop};
@@ -29,6 +30,7 @@ pub struct Declared<'a> {
     /// For each rule its own.
     rules: Vec<Closed>,
     scratch: Scratch,
+    answers: Answers,
 }
 
 impl<'a> Model for Declared<'a> {
@@ -41,11 +43,15 @@ impl<'a> Model for Declared<'a> {
 
     ghost coded = { Prim.hlevel (codes, formula.the_row.coded) };
 
+    ghost use Rattle.std.specs.Prelude.{All};
+    ghost use Rattle.tv_model.specs.Program.{program_of};
+    ghost use Rattle.tv_losses_unmet.specs.Answered.{IsAnswer};
     ghost use Rattle.tv_losses_unmet.specs.Kept.{AreDeclared};
 
     ghost view = { λ x. x.program.now };
 
-    ghost invariant = { λ x. AreDeclared x.program.now x.preds.items x.rules.items x.scratch };
+    ghost invariant = { λ x. AreDeclared x.program.now x.preds.items x.rules.items x.scratch
+        × All (IsAnswer (program_of x.program.now)) x.answers.list.items };
 }
 
 impl<'a> Declared<'a> {
@@ -63,6 +69,7 @@ impl<'a> Declared<'a> {
             preds,
             rules,
             scratch,
+            answers: Answers::new(alloc),
         })
     }
 
@@ -74,7 +81,12 @@ impl<'a> Declared<'a> {
         ensures found { IfOk result (IsFound (program_of self.old) s.now) }
         ensures same { self.new ≡ self.old }
     {
-        self.first_dropping(slice::from_ref(s))
+        if let Some(claim) = self.answers.of(s) {
+            return Ok(claim);
+        }
+        let claim = self.first_dropping(slice::from_ref(s))?;
+        self.answers.keep(self.alloc, s, claim)?;
+        Ok(claim)
     }
 
     /// The first declaration that each of the structures contradicts alone. None exactly where there is no

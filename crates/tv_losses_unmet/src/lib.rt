@@ -2,6 +2,7 @@
 #![tactic(auto)]
 
 mod alone;
+mod answers;
 mod claim;
 mod closed;
 mod declared;

@@ -4,6 +4,7 @@ use Rattle.tv_eval.specs.ScratchForm.{ScratchForm, IsMadeFor}
 use Rattle.tv_listing.specs.Listed.{IsListing}
 use Rattle.tv_model.specs.Program.{ProgramForm, pred_of, program_of, rule_of}
 use Rattle.tv_model.specs.Valid.{IsValid}
+use Rattle.tv_replay_judge.specs.Readied.{AreReadied}
 use Rattle.tv_replay_laws.specs.JudgedRules.{rules_of_properties}
 use Rattle.tv_replay_laws.specs.declared.state.State.{State}
 use Rattle.tv_replay_laws.specs.declared.state.ReplayError.{ReplayError}
@@ -18,13 +19,14 @@ use Rattle.tv_replay.specs.declared.states.Judge.{Judge}
 abbrev pub program_in : Judge → ProgramForm
 program_in judge = program_of judge.program.now
 
--- the order is of all definitions, the properties and the listing are the program's, and there is room to
--- evaluate its formulas
+-- the order is of all definitions, the properties, what is found of rules and the listing are the program's, and
+-- there is room to evaluate its formulas
 pub record CanJudge (judge : Judge) (scratch : ScratchForm) : Type 0 where
   pub valid : IsValid (program_in judge)
   pub order : AreAllDefined (program_in judge) (map (λ p. p.0) judge.order.now)
   pub properties : map rule_of judge.properties.now
       ≡ rules_of_properties 0 (map pred_of judge.program.now.vocab.preds)
+  pub readied : AreReadied (map rule_of judge.properties.now) (program_in judge).rules judge.readied.now
   pub listing : IsListing judge.program.now judge.listing.now
   pub made : IsMadeFor (program_in judge) 256 scratch
 

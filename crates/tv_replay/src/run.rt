@@ -17,7 +17,7 @@ use std::alloc::Global;
 use tv_eval::Scratch;
 use tv_listing::Listing;
 use tv_model::{Items, Program};
-use tv_replay_judge::property_rules;
+use tv_replay_judge::{property_rules, ready_rules};
 use tv_replay_laws::{ReplayError, StateList, States};
 use tv_replay_step::Halt;
 use tv_struct::{Structure, Structures, Table};
@@ -110,12 +110,14 @@ pub fn replay(
 {
     let _ = start.size();
     let properties = property_rules(alloc, program.vocab.preds.as_slice())?;
+    let readied = ready_rules(alloc, program, &properties)?;
     let order = order_of(alloc, program)?;
     let mut scratch = Scratch::new(alloc, program, MAX_INDIVIDUALS)?;
     let judge = Judge {
         program,
         order: &order,
         properties: &properties,
+        readied: &readied,
         listing,
     };
     let moves = trace.moves.as_slice();

@@ -15,20 +15,21 @@ use std::alloc::{AllocError, Global};
 use tv_eval::Scratch;
 use tv_listing::Listing;
 use tv_model::{Program, Rules};
-use tv_replay_judge::{first_above, first_listed, first_unlike, first_unmet};
+use tv_replay_judge::{ReadiedRules, first_above, first_listed, first_unlike, first_unmet_of};
 use tv_replay_laws::{ListedCover, State};
 use tv_replay_step::{Halt, Moved, Ordered, next};
 use tv_struct::{Structure, Structures};
 use tv_trace::Move;
 use tv_update::Order;
 
-/// What states are judged by: a program, an order of its definitions, the rules of its properties, and a
-/// listing.
+/// What states are judged by: a program, an order of its definitions, the rules of its properties, what is
+/// found of all rules once, and a listing.
 #[derive(Clone, Copy)]
 pub struct Judge<'a> {
     pub program: &'a Program,
     pub order: &'a Order,
     pub properties: &'a Rules,
+    pub readied: &'a ReadiedRules,
     pub listing: &'a Listing,
 }
 
@@ -54,7 +55,13 @@ fn judge_heap(
     ensures listed { IfOk result (λ x. IsFirstAbove heap.now (at_node judge.now.listing.now node) x.listed) }
     ensures scratch { scratch.new ≡ scratch.old }
 {
-    let rule = first_unmet(alloc, judge.program, judge.properties, heap, scratch)?;
+    let rule = first_unmet_of(
+        judge.program,
+        judge.properties,
+        judge.readied,
+        heap,
+        scratch,
+    );
     let listed = first_listed(alloc, heap, judge.listing, node)?;
     Ok(Judged { rule, listed })
 }

@@ -6,3 +6,4 @@ pub mod Rules
 pub mod Compared
 pub mod Preds
 pub mod Places
+pub mod Readying

@@ -1,3 +1,4 @@
+pub mod Readied
 pub mod Ready
 pub mod Same
 pub mod Trying

@@ -14,5 +14,5 @@ mod values;
 pub use above::{first_above, first_listed};
 pub use defined::first_unlike;
 pub use differing::first_differing;
-pub use first::first_unmet;
+pub use first::{ReadiedRules, first_unmet, first_unmet_of, ready_rules};
 pub use properties::property_rules;

@@ -1,11 +1,13 @@
 //! Whether a heap meets one rule.
 
-ghost use Rattle.std.specs.Prelude.{◌≡◌, ◌↔◌, ◌<◌, ℕ, All, Contains, IfOk, IsTrue, OnOk};
+ghost use Rattle.std.specs.Prelude.{◌≡◌, ◌↔◌, ◌<◌, ℕ, All, Contains, IfOk, IsTrue, OnOk, map};
+ghost use Rattle.std.specs.List.{AllZip};
 ghost use Rattle.tv_coerce_members.specs.Members.{numbers_of};
 ghost use Rattle.tv_model.specs.Form.{form_of};
 ghost use Rattle.tv_model.specs.Program.{head_of, rule_of};
 ghost use Rattle.tv_model.specs.Rules.{MeetsRule, head_formula, signed_form};
 ghost use Rattle.tv_two_valued.specs.TwoValued.{heap_of};
+ghost use Rattle.tv_replay_judge.specs.Readied.{IsReadied};
 ghost use Rattle.tv_replay_judge.specs.Trying.{CanJudge, IsFreeIn, implication_of};
 
 use crate::trial::{Implication, is_met_by_all};
@@ -70,17 +72,17 @@ fn variables(alloc: Global, trial: &Implication) -> Result<Vars, AllocError>
     Ok(vars)
 }
 
-/// Whether the heap that the structure stands for meets the rule: whether wherever its body is true, so is
-/// its head. The scratch is given back as it was.
-pub(crate) fn meets_rule(
-    alloc: Global,
-    s: &Structure,
-    scratch: &mut Scratch,
-    rule: &Rule,
-) -> Result<bool, AllocError>
-    requires { CanJudge s.now scratch.old (rule_of rule.now) }
-    ensures met { IfOk result (λ b. IsTrue b ↔ MeetsRule (heap_of s.now) (rule_of rule.now)) }
-    ensures scratch { scratch.new ≡ scratch.old }
+/// What is found of a rule once, however often it is tried: its head as a formula, and the variables that are
+/// free in it.
+#[derive(Debug, Drop)]
+pub struct Readied {
+    head: Formula,
+    vars: Vars,
+}
+
+/// What is found of the rule once.
+fn ready_rule(alloc: Global, rule: &Rule) -> Result<Readied, AllocError>
+    ensures { IfOk result (IsReadied (rule_of rule.now)) }
 {
     let head = head_formula(alloc, rule.head)?;
     let trial = Implication {
@@ -88,14 +90,46 @@ pub(crate) fn meets_rule(
         head: &head,
     };
     let vars = variables(alloc, &trial)?;
+    Ok(Readied { head, vars })
+}
+
+/// What is found of each of the rules once.
+#[tactic(auto, using(crate::proofs::Readying::readied_more))]
+pub(crate) fn ready_all(alloc: Global, rules: &[Rule]) -> Result<Vec<Readied>, AllocError>
+    ensures { IfOk result (λ readied. AllZip IsReadied (map rule_of rules.now) readied.items) }
+{
+    let mut readied = Vec::with_capacity(alloc, rules.len())?;
+    for rule in rules {
+        readied.push(ready_rule(alloc, rule)?)?;
+    }
+    Ok(readied)
+}
+
+/// Whether the heap that the structure stands for meets the rule: whether wherever its body is true, so is
+/// its head. The scratch is given back as it was.
+pub(crate) fn meets_rule(
+    s: &Structure,
+    scratch: &mut Scratch,
+    rule: &Rule,
+    readied: &Readied,
+) -> bool
+    requires can { CanJudge s.now scratch.old (rule_of rule.now) }
+    requires readied { IsReadied (rule_of rule.now) readied.now }
+    ensures met { IsTrue result ↔ MeetsRule (heap_of s.now) (rule_of rule.now) }
+    ensures scratch { scratch.new ≡ scratch.old }
+{
+    let trial = Implication {
+        body: &rule.body,
+        head: &readied.head,
+    };
     let mut evaluator = Evaluator::new(s, scratch);
     let met = is_met_by_all(
         s,
         &mut evaluator,
         &trial,
-        vars.as_slice(),
+        readied.vars.as_slice(),
         &Assignment::new(),
     );
     evaluator.finish(scratch);
-    Ok(met)
+    met
 }

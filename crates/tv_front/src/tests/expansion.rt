@@ -7,7 +7,8 @@ const WHOLE: Frame = Frame {
     view: View::Flat,
 };
 
-// The flat form is printed as a program whose actions are numbers, with `;` for a line feed.
+// The flat form is printed as a program whose actions are numbers, with `;` for a line feed. Captions are empty
+// there.
 static DECLARATIONS: &[u8] = b"%% %%\t%%;%%;
 %s S {x, y} foreach (z in S) { %p z(v) } %% %%\t%p x ( v );%p y ( v );%%;%%;
 foreach (z in {x, y}) { %p z(v) unique foreach (w in {z, n}) { %p r[w,z](v) } } %% %%\t%p x ( v ) unique;%p r [ x , x ] ( v );%p r [ n , x ] ( v );%p y ( v ) unique;%p r [ y , y ] ( v );%p r [ n , y ] ( v );%%;%%;
@@ -30,8 +31,8 @@ foreach (z in {}) { foreach (w in T) { %p w() } } %% %%\t%%;%%;
 %p n[ f , g ](v, w) box abs %% %%\t%p n [ f , g ] ( v , w ) box abs;%%;%%;";
 
 static ACTIONS: &[u8] =
-    b"%% %action a(z) { %t \"set \" + z + \" to \" + w } %% L a(x) L\t%%;%action 0 ( ) {;%t \"set x to w\";};%%;L 0 ( ) L;
-%% %action a() { %t b + c + \" d\" } %% L a() L\t%%;%action 0 ( ) {;%t \"bc d\";};%%;L 0 ( ) L;
+    b"%% %action a(z) { %t \"set \" + z + \" to \" + w } %% L a(x) L\t%%;%action 0 ( ) {;%t;};%%;L 0 ( ) L;
+%% %action a() { %t b + c + \" d\" } %% L a() L\t%%;%action 0 ( ) {;%t;};%%;L 0 ( ) L;
 %% %action a(z) { %f { z(v), r[n,z](v) } %p E(z) z(z) } %% L a(x) L\t%%;%action 0 ( ) {;%f { x ( v ) , r [ n , x ] ( v ) };%p E ( z ) x ( z );};%%;L 0 ( ) L;
 %% %action a(z) { %message !(E(v) z(v)) -> \"null \" + z + \"!\" %new %retain z(z) } %% L a(x) L\t%%;%action 0 ( ) {;%message ! ( E ( v ) x ( v ) ) -> \"null x!\";%new;%retain x ( z );};%%;L 0 ( ) L;
 %% %action a(z, w) { { z(v) = w(v) r[z,w](v) = t[w](v) } } %% L a(x, y) M\t%%;%action 0 ( ) {;{;x ( v ) = y ( v );r [ x , y ] ( v ) = t [ y ] ( v );};};%%;L 0 ( ) M;
@@ -45,7 +46,7 @@ static ACTIONS: &[u8] =
 %% %action a(z) { { foreach (x in {w}) { z() = x() } } } %% L a(x) L\t%%;%action 0 ( ) {;{;x ( ) = w ( );};};%%;L 0 ( ) L;
 %% %action a() { { foreach (z in {}) { foreach (w in T) { w() = 0 } } } } %% L a() L\t%%;%action 0 ( ) {;{;};};%%;L 0 ( ) L;
 %% %action a() { { foreach (z in T) { z() = 0 } } } %action c() {} %% L c() L\t%%;%action 0 ( ) {;};%%;L 0 ( ) L;
-%s Sel {n, m} %% %action Set(z, w) { %t z + \" = \" + w %message !(E(v) w(v)) -> \"no \" + w { z(v) = w(v) foreach (s in Sel) { r[s,z](v) = r[s,w](v) } foreach (z in {z, t}) { u[z](v) = 0 } } } %% L0 Set(x, y) L1\t%%;%action 0 ( ) {;%t \"x = y\";%message ! ( E ( v ) y ( v ) ) -> \"no y\";{;x ( v ) = y ( v );r [ n , x ] ( v ) = r [ n , y ] ( v );r [ m , x ] ( v ) = r [ m , y ] ( v );u [ x ] ( v ) = 0;u [ t ] ( v ) = 0;};};%%;L0 0 ( ) L1;
+%s Sel {n, m} %% %action Set(z, w) { %t z + \" = \" + w %message !(E(v) w(v)) -> \"no \" + w { z(v) = w(v) foreach (s in Sel) { r[s,z](v) = r[s,w](v) } foreach (z in {z, t}) { u[z](v) = 0 } } } %% L0 Set(x, y) L1\t%%;%action 0 ( ) {;%t;%message ! ( E ( v ) y ( v ) ) -> \"no y\";{;x ( v ) = y ( v );r [ n , x ] ( v ) = r [ n , y ] ( v );r [ m , x ] ( v ) = r [ m , y ] ( v );u [ x ] ( v ) = 0;u [ t ] ( v ) = 0;};};%%;L0 0 ( ) L1;
 %% %action a() { %f {} {} } %% L a() L %% L, M\t%%;%action 0 ( ) {;%f { };{;};};%%;L 0 ( ) L;";
 
 static REFUSALS: &[u8] = b"%s S {x} + T %% %%\tNameUnknown
@@ -88,7 +89,7 @@ foreach (w in T) {} foreach (z in {a, b}) { %s U {z} } %% %%\tNameUnknown
 
 // A program over linked lists, with its includes put in.
 static LIST: &[u8] =
-    b"/* Traversal of a list. */ %s PVar {x, y} foreach (z in PVar) { %p z(v_1) unique box } %p n(v_1, v_2) function %i t[n](v_1, v_2) = n*(v_1, v_2) transitive reflexive foreach (z in PVar) { %i r[n,z](v) = E(v_1) z(v_1) & t[n](v_1, v) } %r t[n](v_1, v_2) ==> !n(v_2, v_1) %r n(v_1, v_2) & t[n](v_1, v_3) & v_1 != v_3 ==> t[n](v_2, v_3) %% %action uninterpreted() { %t \"uninterpreted\" } %action Is_Not_Null_Var(lhs) { %t lhs + \" != NULL\" %f { lhs(v) } %p E(v) lhs(v) } %action Is_Null_Var(lhs) { %t lhs + \" == NULL\" %f { lhs(v) } %p !(E(v) lhs(v)) } %action Copy_Var(lhs, rhs) { %t lhs + \" = \" + rhs %f { rhs(v) } { lhs(v) = rhs(v) r[n,lhs](v) = r[n,rhs](v) } } %action Get_Next_L(lhs, rhs) { %t lhs + \" = \" + rhs + \"->n\" %f { E(v_1) rhs(v_1) & n(v_1, v) } %message !(E(v) rhs(v)) -> \"null dereference of \" + rhs { lhs(v) = E(v_1) rhs(v_1) & n(v_1, v) r[n,lhs](v) = r[n,rhs](v) & !rhs(v) } } %% L1 Copy_Var(y, x) L2 L2 Is_Not_Null_Var(y) L3 L3 Get_Next_L(y, y) L2 L2 Is_Null_Var(y) L4\t%p x ( v_1 ) unique box;%p y ( v_1 ) unique box;%p n ( v_1 , v_2 ) function;%i t [ n ] ( v_1 , v_2 ) = n * ( v_1 , v_2 ) transitive reflexive;%i r [ n , x ] ( v ) = E ( v_1 ) x ( v_1 ) & t [ n ] ( v_1 , v );%i r [ n , y ] ( v ) = E ( v_1 ) y ( v_1 ) & t [ n ] ( v_1 , v );%r t [ n ] ( v_1 , v_2 ) ==> ! n ( v_2 , v_1 );%r n ( v_1 , v_2 ) & t [ n ] ( v_1 , v_3 ) & v_1 != v_3 ==> t [ n ] ( v_2 , v_3 );%%;%action 0 ( ) {;%t \"y = x\";%f { x ( v ) };{;y ( v ) = x ( v );r [ n , y ] ( v ) = r [ n , x ] ( v );};};%action 1 ( ) {;%t \"y != NULL\";%f { y ( v ) };%p E ( v ) y ( v );};%action 2 ( ) {;%t \"y = y->n\";%f { E ( v_1 ) y ( v_1 ) & n ( v_1 , v ) };%message ! ( E ( v ) y ( v ) ) -> \"null dereference of y\";{;y ( v ) = E ( v_1 ) y ( v_1 ) & n ( v_1 , v );r [ n , y ] ( v ) = r [ n , y ] ( v ) & ! y ( v );};};%action 3 ( ) {;%t \"y == NULL\";%f { y ( v ) };%p ! ( E ( v ) y ( v ) );};%%;L1 0 ( ) L2;L2 1 ( ) L3;L3 2 ( ) L2;L2 3 ( ) L4;";
+    b"/* Traversal of a list. */ %s PVar {x, y} foreach (z in PVar) { %p z(v_1) unique box } %p n(v_1, v_2) function %i t[n](v_1, v_2) = n*(v_1, v_2) transitive reflexive foreach (z in PVar) { %i r[n,z](v) = E(v_1) z(v_1) & t[n](v_1, v) } %r t[n](v_1, v_2) ==> !n(v_2, v_1) %r n(v_1, v_2) & t[n](v_1, v_3) & v_1 != v_3 ==> t[n](v_2, v_3) %% %action uninterpreted() { %t \"uninterpreted\" } %action Is_Not_Null_Var(lhs) { %t lhs + \" != NULL\" %f { lhs(v) } %p E(v) lhs(v) } %action Is_Null_Var(lhs) { %t lhs + \" == NULL\" %f { lhs(v) } %p !(E(v) lhs(v)) } %action Copy_Var(lhs, rhs) { %t lhs + \" = \" + rhs %f { rhs(v) } { lhs(v) = rhs(v) r[n,lhs](v) = r[n,rhs](v) } } %action Get_Next_L(lhs, rhs) { %t lhs + \" = \" + rhs + \"->n\" %f { E(v_1) rhs(v_1) & n(v_1, v) } %message !(E(v) rhs(v)) -> \"null dereference of \" + rhs { lhs(v) = E(v_1) rhs(v_1) & n(v_1, v) r[n,lhs](v) = r[n,rhs](v) & !rhs(v) } } %% L1 Copy_Var(y, x) L2 L2 Is_Not_Null_Var(y) L3 L3 Get_Next_L(y, y) L2 L2 Is_Null_Var(y) L4\t%p x ( v_1 ) unique box;%p y ( v_1 ) unique box;%p n ( v_1 , v_2 ) function;%i t [ n ] ( v_1 , v_2 ) = n * ( v_1 , v_2 ) transitive reflexive;%i r [ n , x ] ( v ) = E ( v_1 ) x ( v_1 ) & t [ n ] ( v_1 , v );%i r [ n , y ] ( v ) = E ( v_1 ) y ( v_1 ) & t [ n ] ( v_1 , v );%r t [ n ] ( v_1 , v_2 ) ==> ! n ( v_2 , v_1 );%r n ( v_1 , v_2 ) & t [ n ] ( v_1 , v_3 ) & v_1 != v_3 ==> t [ n ] ( v_2 , v_3 );%%;%action 0 ( ) {;%t;%f { x ( v ) };{;y ( v ) = x ( v );r [ n , y ] ( v ) = r [ n , x ] ( v );};};%action 1 ( ) {;%t;%f { y ( v ) };%p E ( v ) y ( v );};%action 2 ( ) {;%t;%f { E ( v_1 ) y ( v_1 ) & n ( v_1 , v ) };%message ! ( E ( v ) y ( v ) ) -> \"null dereference of y\";{;y ( v ) = E ( v_1 ) y ( v_1 ) & n ( v_1 , v );r [ n , y ] ( v ) = r [ n , y ] ( v ) & ! y ( v );};};%action 3 ( ) {;%t;%f { y ( v ) };%p ! ( E ( v ) y ( v ) );};%%;L1 0 ( ) L2;L2 1 ( ) L3;L3 2 ( ) L2;L2 3 ( ) L4;";
 
 #[test]
 fn declarations_and_actions_with_all_put_in(rt: HostRuntime) {

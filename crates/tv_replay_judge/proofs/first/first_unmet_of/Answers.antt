@@ -8,10 +8,10 @@ use Rattle.tv_replay_judge.specs.Trying.{CanJudge}
 use Rattle.tv_replay_judge.proofs.Judging.{declared-can, of-values, properties-can}
 use Rattle.tv_replay_judge.proofs.Rules.{both-met, carried, left-broken, properties-count, right-broken}
 use Rattle.tv_replay_judge.proofs.Rules.{unmet-within}
-use Rattle.tv_replay_judge.proofs.first.first_unmet.Goals as goal
+use Rattle.tv_replay_judge.proofs.first.first_unmet_of.Goals as goal
 
-pub first_of-requires : goal.first_of-requires
-first_of-requires c =
+pub first_of-requires-clause-can : goal.first_of-requires-clause-can
+first_of-requires-clause-can c =
     let p = program_of c.args.program.now
     in of-values (CanJudge c.args.s.now c.args.scratch.now) c.as_slice.result.now (rules_of_properties 0 p.preds)
     (ap (map rule_of) c.as_slice.ensures ∙ c.requires.properties) (properties-can p c.args.s.now c.args.scratch.now c.requires.ready)
@@ -20,8 +20,8 @@ pub overflow_cast-result : goal.overflow_cast-result
 overflow_cast-result c =
     let p = program_of c.args.program.now
     in let props = rules_of_properties 0 p.preds
-    in let found = carried (heap_of c.args.s.now) (map rule_of c.as_slice.result.now) props c.in_ok-n.field-0 (Some c.in-Some.n)
-    (ap (map rule_of) c.as_slice.ensures ∙ c.requires.properties) c.in-Some.is c.in_ok-n.ensures.first
+    in let found = carried (heap_of c.args.s.now) (map rule_of c.as_slice.result.now) props c.first_of.result (Some c.in-Some.n)
+    (ap (map rule_of) c.as_slice.ensures ∙ c.requires.properties) c.in-Some.is c.first_of.ensures.first
     in omega (arith, unmet-within (heap_of c.args.s.now) props c.in-Some.n found, properties-count 0 p.preds, c.requires.ready.valid.pred_count)
 
 pub returns-in-Some-clause-first : goal.returns-in-Some-clause-first
@@ -29,11 +29,11 @@ returns-in-Some-clause-first c =
     let p = program_of c.args.program.now
     in let props = rules_of_properties 0 p.preds
     in left-broken (heap_of c.args.s.now) props p.rules c.in-Some.n
-    (carried (heap_of c.args.s.now) (map rule_of c.as_slice.result.now) props c.in_ok-n.field-0 (Some c.in-Some.n)
-    (ap (map rule_of) c.as_slice.ensures ∙ c.requires.properties) c.in-Some.is c.in_ok-n.ensures.first)
+    (carried (heap_of c.args.s.now) (map rule_of c.as_slice.result.now) props c.first_of.result (Some c.in-Some.n)
+    (ap (map rule_of) c.as_slice.ensures ∙ c.requires.properties) c.in-Some.is c.first_of.ensures.first)
 
-pub first_of-requires-2 : goal.first_of-requires-2
-first_of-requires-2 c =
+pub first_of-requires-2-clause-can : goal.first_of-requires-2-clause-can
+first_of-requires-2-clause-can c =
     let p = program_of c.args.program.now
     in subst (λ room. All (λ rule. CanJudge c.args.s.now room (rule_of rule)) c.as_slice-2.result.now) (sym c.first_of.ensures.scratch)
     (of-values (CanJudge c.args.s.now c.args.scratch.now) c.as_slice-2.result.now p.rules (ap (map rule_of) c.as_slice-2.ensures)
@@ -43,8 +43,8 @@ pub overflow_add-result : goal.overflow_add-result
 overflow_add-result c =
     let p = program_of c.args.program.now
     in let props = rules_of_properties 0 p.preds
-    in let found = carried (heap_of c.args.s.now) (map rule_of c.as_slice-2.result.now) p.rules c.in_ok-first_of.field-0 (Some c.in-Some-2.n)
-    (ap (map rule_of) c.as_slice-2.ensures) c.in-Some-2.is c.in_ok-first_of.ensures.first
+    in let found = carried (heap_of c.args.s.now) (map rule_of c.as_slice-2.result.now) p.rules c.first_of-2.result (Some c.in-Some-2.n)
+    (ap (map rule_of) c.as_slice-2.ensures) c.in-Some-2.is c.first_of-2.ensures.first
     in let count : c.len.result ≡ length props
     = c.len.ensures ∙ sym (length-map c.args.properties.now rule_of) ∙ ap (λ (rs : List RuleForm). length rs) c.requires.properties
     in omega (
@@ -60,8 +60,8 @@ pub overflow_cast-result-in-Some-2 : goal.overflow_cast-result-in-Some-2
 overflow_cast-result-in-Some-2 c =
     let p = program_of c.args.program.now
     in let props = rules_of_properties 0 p.preds
-    in let found = carried (heap_of c.args.s.now) (map rule_of c.as_slice-2.result.now) p.rules c.in_ok-first_of.field-0 (Some c.in-Some-2.n)
-    (ap (map rule_of) c.as_slice-2.ensures) c.in-Some-2.is c.in_ok-first_of.ensures.first
+    in let found = carried (heap_of c.args.s.now) (map rule_of c.as_slice-2.result.now) p.rules c.first_of-2.result (Some c.in-Some-2.n)
+    (ap (map rule_of) c.as_slice-2.ensures) c.in-Some-2.is c.first_of-2.ensures.first
     in let count : c.len.result ≡ length props
     = c.len.ensures ∙ sym (length-map c.args.properties.now rule_of) ∙ ap (λ (rs : List RuleForm). length rs) c.requires.properties
     in omega (
@@ -79,10 +79,10 @@ returns-in-None-clause-first c =
     in let h = heap_of c.args.s.now
     in let props = rules_of_properties 0 p.preds
     in both-met h props p.rules
-    (carried h (map rule_of c.as_slice.result.now) props c.in_ok-n.field-0 None (ap (map rule_of) c.as_slice.ensures ∙ c.requires.properties)
-    c.in_default.is c.in_ok-n.ensures.first)
-    (carried h (map rule_of c.as_slice-2.result.now) p.rules c.in_ok-first_of.field-0 None (ap (map rule_of) c.as_slice-2.ensures)
-    c.in-None.is c.in_ok-first_of.ensures.first)
+    (carried h (map rule_of c.as_slice.result.now) props c.first_of.result None (ap (map rule_of) c.as_slice.ensures ∙ c.requires.properties)
+    c.in_default.is c.first_of.ensures.first)
+    (carried h (map rule_of c.as_slice-2.result.now) p.rules c.first_of-2.result None (ap (map rule_of) c.as_slice-2.ensures)
+    c.in-None.is c.first_of-2.ensures.first)
 
 pub returns-in-Some-2-clause-first : goal.returns-in-Some-2-clause-first
 returns-in-Some-2-clause-first c =
@@ -93,7 +93,7 @@ returns-in-Some-2-clause-first c =
     = c.len.ensures ∙ sym (length-map c.args.properties.now rule_of) ∙ ap (λ (rs : List RuleForm). length rs) c.requires.properties
     in subst (λ k. IsFirstUnmet h (props ++ p.rules) (Some (k + c.in-Some-2.n))) (sym count)
     (right-broken h props p.rules c.in-Some-2.n
-    (carried h (map rule_of c.as_slice.result.now) props c.in_ok-n.field-0 None (ap (map rule_of) c.as_slice.ensures ∙ c.requires.properties)
-    c.in_default.is c.in_ok-n.ensures.first)
-    (carried h (map rule_of c.as_slice-2.result.now) p.rules c.in_ok-first_of.field-0 (Some c.in-Some-2.n) (ap (map rule_of) c.as_slice-2.ensures)
-    c.in-Some-2.is c.in_ok-first_of.ensures.first))
+    (carried h (map rule_of c.as_slice.result.now) props c.first_of.result None (ap (map rule_of) c.as_slice.ensures ∙ c.requires.properties)
+    c.in_default.is c.first_of.ensures.first)
+    (carried h (map rule_of c.as_slice-2.result.now) p.rules c.first_of-2.result (Some c.in-Some-2.n) (ap (map rule_of) c.as_slice-2.ensures)
+    c.in-Some-2.is c.first_of-2.ensures.first))
