@@ -10,7 +10,8 @@
 #   --tenths       has a tenth of each text run too, and tells the time as a multiple of it
 #   --other NAME   runs another program with the same words (else the one that OTHER names), with the stack
 #                  that a call has here, and tells its time; what takes over ten times that and over 2 s
-#                  fails, and so do other answers
+#                  fails, and so do other answers. Beside a call of tvla-explain stands analyze of the same
+#                  texts, of which it may take five times the time
 #   --list         only names the rows
 # It fails where a signal ends the program, where a limit is passed, and where a call ends otherwise than a
 # row says. TVLA names a program in place of the built one, and TVLA_EXPLAIN one in place of tvla-explain, which
@@ -27,8 +28,9 @@ from texts import (BLOCKS, DEEP, DEEPEST, EMPTY, HIGHER, ONE, PLACES, TAIL, anal
                    individuals, names_apart, replay, source)
 
 MIB4, MIB64 = 4_194_304, 67_108_864
-EXPLAIN = "tvla-explain: "  # the rows of this program, of which there is no other
+EXPLAIN = "tvla-explain: "  # the rows of this program, beside which analyze is run
 FACTOR, ENOUGH = 10, 2.0  # so many times the other's time, or so many seconds, are no fault
+TIMES_ANALYZE = 5  # so many times the time of analyze are none for tvla-explain
 ROWS = []
 
 
@@ -110,6 +112,12 @@ def _(count):
                    chain(250, "x = {u0} " + names_apart(250, 8)))
 
 
+@row("a caption of 8,000 pieces at 400 edges, each with a word of 100 bytes", 8_000)
+def _(pieces):
+    edges = "".join("L F(" + f"w{k}".ljust(100, "_") + ") L\n" for k in range(400))
+    return analyze("%%\n%action F(a) { %t " + "+".join(["a"] * pieces) + " }\n%%\n" + edges)
+
+
 @row("32 picked variables, one individual", 32, tenth=4)
 def _(count):
     pre = " & ".join(f"x(z{k})" for k in range(count))
@@ -150,6 +158,22 @@ def _(count):
 
 row("check --maps: the same", 250)(lambda size: (["check", "p", "i", "r", "--maps"], ROWS_BY_NAME[
     "check: an embedding of 250 individuals along a chain"](size)[1]))
+
+
+@row("check: 10,000 structures with unknown flags at different places", 10_000)
+def _(count):
+    bits = (count - 1).bit_length()
+    preds = "".join(f"%p f{k}()\n" for k in range(2 * bits)) + "%p g()\n"
+    text = preds + "%%\n%action F() { { g() = !g() } }\n%%\nL F() M\n"
+
+    def structures(more):
+        """Of each pair of flags one is unknown, by a bit of the structure's number."""
+        flags = (" ".join(f"f{2 * k + (n >> k & 1)} = 1/2" for k in range(bits)) for n in range(count))
+        return "".join("%n = {} %p = { " + unknown + more + " }\n" for unknown in flags)
+
+    report = f"node L structures {count}\n{structures('')}node M structures {count}\n{structures(' g = 1/2')}"
+    return check(text, "", "tvla report 2\n" + report + "end\n")
+
 
 # ---- width ----
 
@@ -200,7 +224,67 @@ def _(count):
     return analyze(text, EMPTY, "--max-structures", "10000")
 
 
-@row(EXPLAIN + "a trail of 256 structures of 256 individuals and 488 unary predicates", 8, tenth=5)
+def closures_asked(size, times, more):
+    """A precondition that asks so many closures of each two individuals, all over nothing around them."""
+    names = "".join(f"%p b{k}()\n" for k in range(times)) + "%p c()\n%p n(v, w)\n%p z(v, w)\n"
+    names += "".join(f"%p a{k}(v)\n" for k in range(8))
+    asked = "".join(f"(TC(v, w)(a, b) n(a, b) & {more}!b{k}()) & " for k in range(times))
+    pre = "E(u) E(v) E(w) " + asked + "(z(v, w) & z(w, v) | z(u, v) & z(v, u))"
+    text = names + "%%\n%action See() { %p " + pre + " }\n%%\nL See() M\n"
+    return analyze(text, chain(size, "c = 1 " + names_apart(size, 8)))
+
+
+row("12 closures in a precondition, 256 individuals", 256, tenth=80)(
+    lambda size: closures_asked(size, 12, ""))
+row("8 closures in a precondition with bodies of 150 nodes that differ in the last one, 256 individuals", 256,
+    tenth=80)(lambda size: closures_asked(size, 8, "c() & " * 150))
+
+
+@row("focus on 8 flags, 490 fields of 256 individuals", 490)
+def _(fields):
+    preds = "%s M {" + ", ".join(f"m{k}" for k in range(fields)) + "}\nforeach (m in M) { %p m(v, w) }\n"
+    preds += "".join(f"%p b{k}()\n" for k in range(8)) + "".join(f"%p a{k}(v)\n" for k in range(8))
+    focus = " & ".join(f"b{k}()" for k in range(8))
+    text = preds + "%%\n%action See() { %f { " + focus + " } %p 0 }\n%%\nL See() L\n"
+    unknown = "".join(f"b{k} = 1/2 " for k in range(8))
+    return analyze(text, "%n = {" + individuals(256) + "} %p = {" + unknown + names_apart(256, 8) + "}")
+
+
+@row("a rule with a name of 2,000 words under four foreach over eight words of 200 bytes", 8, "program: NameUnknown",
+     tenth=4)
+def _(members):
+    words = "%s M {" + ", ".join(f"m{k}".ljust(200, "_") for k in range(members)) + "}\n"
+    loops = "".join(f"foreach (x{k} in M) {{ " for k in range(4))
+    return analyze(words + loops + "%r r[" + ",".join(["x0"] * 2_000) + "]() ==> 0 " + "} " * 4 + "\n" + TAIL)
+
+
+@row("a set of 2,000 words, and 1,100 names for it", 1_100)
+def _(names):
+    words = "%s S {" + ", ".join(f"m{k}" for k in range(2_000)) + "}\n"
+    return analyze(words + "".join(f"%s S{k} S\n" for k in range(names)) + TAIL)
+
+
+@row(EXPLAIN + "losses of 64,000 rules, two of which 1,000 equal structures contradict together", 40, "status 1",
+     tenth=18)
+def _(members):
+    preds = "%s M {" + ", ".join(f"m{k}" for k in range(members)) + "}\n%p a()\n%p b()\n"
+    rules = "foreach (x in M) { foreach (y in M) { foreach (z in M) { %r 0 ==> 0 } } }\n"
+    both = "%r a() ==> b()\n%r a() ==> !b()\n"
+    words, files = analyze(preds + rules + both + TAIL, "%n = {} %p = {a = 1 b = 1/2}\n" * 1_000)
+    return ["losses", *words[1:]], files
+
+
+@row(EXPLAIN + "losses of 300 rules of 180 quantifiers of 31 variables", 300, "status 1")
+def _(rules):
+    names = ", ".join(f"v{k}" for k in range(31))
+    body = "".join("EA"[k % 2] + f"({names}) " for k in range(180))
+    preds = "%s M {" + ", ".join(f"m{k}" for k in range(rules)) + "}\n%p a()\n%p b()\n"
+    high = "foreach (x in M) { %r 0 & (" + body + "0) ==> 0 }\n"
+    words, files = analyze(preds + high + "%r a() ==> b()\n%r a() ==> !b()\n" + TAIL, "%n = {} %p = {a = 1 b = 1/2}")
+    return ["losses", *words[1:]], files
+
+
+@row(EXPLAIN + "a trail of 4,096 structures of 256 individuals and 488 unary predicates", 12, tenth=8)
 def _(bits):
     preds = "%s M {" + ", ".join(f"m{k}" for k in range(480)) + "}\nforeach (m in M) { %p m(v) nonabs }\n"
     preds += "".join(f"%p a{k}(v)\n" for k in range(8)) + "".join(f"%p c{k}()\n" for k in range(bits))
@@ -328,6 +412,15 @@ for count, levels in ((20, 29), (70, 15)):
 
 row("trace: 4 MiB of steps of a heap without individuals", MIB4)(
     lambda size: replay(TAIL, EMPTY, "step 0 " * (size // 7)))
+
+
+@row("trace: 200 steps and 64,000 rules", 40, tenth=18)
+def _(members):
+    rules = "%s M {" + ", ".join(f"m{k}" for k in range(members)) + "}\n%p b()\n%p q(v)\n"
+    rules += "foreach (x in M) { foreach (y in M) { foreach (z in M) { %r b() & q(v) ==> q(v) } } }\n"
+    return replay(rules + TAIL, EMPTY, "step 0 " * 200)
+
+
 row("trace: a step of 1,000,000 picks", 1_000_000, "status 1")(
     lambda size: replay(TAIL, ONE, "step 0 (0" + ", 0" * (size - 1) + ")"))
 
@@ -401,8 +494,8 @@ def in_time(call):
     return call.code >= 0 and not call.late
 
 
-def judge(name, words, call, ended, wanted, told):
-    """What fails in this row, if anything does."""
+def judge(call, ended, wanted, told, times):
+    """What fails in this row, if anything does. The other may be analyze, which says something else."""
     if call.late or call.code < 0 or ended != wanted:
         return f"{ended}, where {wanted} is wanted"
     if call.kilobytes and call.kilobytes > asked.megabytes * 1000:
@@ -410,9 +503,10 @@ def judge(name, words, call, ended, wanted, told):
     if not told or not in_time(told[0]):
         return None
     theirs, other_ended = told
-    if ended != other_ended or call.code != 4 and not filecmp.cmp("own.out", "other.out", shallow=False):
+    same = ended == other_ended and (call.code == 4 or filecmp.cmp("own.out", "other.out", shallow=False))
+    if times == FACTOR and not same:
         return f"the other answers otherwise: {other_ended}"
-    if call.seconds > max(ENOUGH, FACTOR * theirs.seconds):
+    if call.seconds > max(ENOUGH, times * theirs.seconds):
         return f"{call.seconds:.2f} s, where the other takes {theirs.seconds:.2f} s"
     return None
 
@@ -427,12 +521,14 @@ try:
     for name, make, size, wanted, tenth in rows:
         words, files = make(size)
         length = write(files)
-        program = explain if name.startswith(EXPLAIN) else own
+        program, beside, theirs, times = own, other, words, FACTOR
+        if name.startswith(EXPLAIN):
+            program, beside, theirs, times = explain, other and own, ["analyze", *words[1:3]], TIMES_ANALYZE
         call, ended = run(program, words, "own", asked.stack)
-        told = run(other, words, "other", "unlimited") if other and program == own else None
+        told = run(beside, theirs, "other", "unlimited") if beside else None
         cells = [name, f"{length:,}", ended, f"{call.seconds:.2f}"]
         cells.append(f"{call.kilobytes / 1000:.0f}" if call.kilobytes else "-")
-        fault = judge(name, words, call, ended, wanted, told)
+        fault = judge(call, ended, wanted, told, times)
         if asked.tenths:
             words, files = make(tenth)
             write(files)
