@@ -1,8 +1,7 @@
 //! The texts that tell how a call ended.
 
-ghost use Rattle.std.specs.Prelude.{◌≡◌, ◌≤◌, OnOk, OnErr, Some, None};
-ghost use Rattle.tv_outside.specs.Count.{Rose, FailedLast};
-ghost use Rattle.tv_outside.specs.Told.{appended, TookFront};
+ghost use Rattle.std.specs.Prelude.{Some, None};
+ghost use Rattle.tv_status.specs.Delivery.{Writes};
 ghost use Rattle.tv_status.specs.Status.{file_fault_text, place_of, teller_line, text_of, told_by};
 ghost use Rattle.tv_status.specs.Status.{too_many_text, usage_text};
 
@@ -26,14 +25,7 @@ const USAGE: &[u8] =
 /// `Failed` comes only where a call of `err` failed, and then a front of the line was taken.
 #[tactic(auto, unfolding(crate::specs::Status::teller_line))]
 pub fn write_line<E: Sink>(err: &mut E, teller: Teller, what: &'static [u8]) -> Result<(), Failed>
-    ensures all { OnOk result (E.taken err.new ≡ appended (E.taken err.old) (teller_line teller what.now)) }
-    ensures failed { OnErr result (Rose (E.faults err.old) (E.faults err.new)) }
-    ensures front { OnErr result
-        (TookFront (E.taken err.old) (E.taken err.new) (teller_line teller what.now)) }
-    ensures no_failure { OnOk result (E.failures err.new ≡ E.failures err.old) }
-    ensures failed_last { OnErr result
-        (FailedLast (E.failures err.old) (E.failures err.new) (E.since err.new)) }
-    ensures count { E.faults err.old ≤ E.faults err.new }
+    ensures told { Writes E.taken E.faults E.failures E.since (teller_line teller what.now) err.old err.new result }
 {
     write_parts(err, &[teller.name(), b": ", what, b"\n"])
 }
@@ -46,15 +38,7 @@ fn write_kind<E: Sink>(
     role: Role,
     kind: FileKind,
 ) -> Result<(), Failed>
-    ensures all { OnOk result
-        (E.taken err.new ≡ appended (E.taken err.old) (file_fault_text teller role kind None)) }
-    ensures failed { OnErr result (Rose (E.faults err.old) (E.faults err.new)) }
-    ensures front { OnErr result
-        (TookFront (E.taken err.old) (E.taken err.new) (file_fault_text teller role kind None)) }
-    ensures no_failure { OnOk result (E.failures err.new ≡ E.failures err.old) }
-    ensures failed_last { OnErr result
-        (FailedLast (E.failures err.old) (E.failures err.new) (E.since err.new)) }
-    ensures count { E.faults err.old ≤ E.faults err.new }
+    ensures told { Writes E.taken E.faults E.failures E.since (file_fault_text teller role kind None) err.old err.new result }
 {
     write_parts(
         err,
@@ -79,15 +63,7 @@ fn write_kind_at<E: Sink>(
     kind: FileKind,
     place: Place,
 ) -> Result<(), Failed>
-    ensures all { OnOk result
-        (E.taken err.new ≡ appended (E.taken err.old) (file_fault_text teller role kind (Some place))) }
-    ensures failed { OnErr result (Rose (E.faults err.old) (E.faults err.new)) }
-    ensures front { OnErr result
-        (TookFront (E.taken err.old) (E.taken err.new) (file_fault_text teller role kind (Some place))) }
-    ensures no_failure { OnOk result (E.failures err.new ≡ E.failures err.old) }
-    ensures failed_last { OnErr result
-        (FailedLast (E.failures err.old) (E.failures err.new) (E.since err.new)) }
-    ensures count { E.faults err.old ≤ E.faults err.new }
+    ensures told { Writes E.taken E.faults E.failures E.since (file_fault_text teller role kind (Some place)) err.old err.new result }
 {
     let mut line = Buffer::new();
     let mut column = Buffer::new();
@@ -112,13 +88,7 @@ fn write_kind_at<E: Sink>(
 /// Gives the text that there are more than `max` structures to the sink; takes no memory.
 #[tactic(auto, unfolding(crate::specs::Status::too_many_text))]
 fn write_too_many<E: Sink>(err: &mut E, teller: Teller, max: u64) -> Result<(), Failed>
-    ensures all { OnOk result (E.taken err.new ≡ appended (E.taken err.old) (too_many_text teller max)) }
-    ensures failed { OnErr result (Rose (E.faults err.old) (E.faults err.new)) }
-    ensures front { OnErr result (TookFront (E.taken err.old) (E.taken err.new) (too_many_text teller max)) }
-    ensures no_failure { OnOk result (E.failures err.new ≡ E.failures err.old) }
-    ensures failed_last { OnErr result
-        (FailedLast (E.failures err.old) (E.failures err.new) (E.since err.new)) }
-    ensures count { E.faults err.old ≤ E.faults err.new }
+    ensures told { Writes E.taken E.faults E.failures E.since (too_many_text teller max) err.old err.new result }
 {
     let mut digits = Buffer::new();
     write_parts(
@@ -143,15 +113,7 @@ pub fn write_told<E: Sink>(
     usage: &[u8],
     status: Status,
 ) -> Result<(), Failed>
-    ensures all { OnOk result
-        (E.taken err.new ≡ appended (E.taken err.old) (told_by teller usage.now status)) }
-    ensures failed { OnErr result (Rose (E.faults err.old) (E.faults err.new)) }
-    ensures front { OnErr result
-        (TookFront (E.taken err.old) (E.taken err.new) (told_by teller usage.now status)) }
-    ensures no_failure { OnOk result (E.failures err.new ≡ E.failures err.old) }
-    ensures failed_last { OnErr result
-        (FailedLast (E.failures err.old) (E.failures err.new) (E.since err.new)) }
-    ensures count { E.faults err.old ≤ E.faults err.new }
+    ensures told { Writes E.taken E.faults E.failures E.since (told_by teller usage.now status) err.old err.new result }
 {
     match status {
         Status::Done | Status::Rejected(_) | Status::Stuck { .. } => write_all(err, b""),
@@ -175,13 +137,7 @@ pub fn write_told<E: Sink>(
 /// `Failed` comes only where a call of `err` failed, and then a front of the text was taken.
 #[tactic(auto, unfolding(crate::specs::Status::usage_text))]
 pub fn write_status<E: Sink>(err: &mut E, status: Status) -> Result<(), Failed>
-    ensures all { OnOk result (E.taken err.new ≡ appended (E.taken err.old) (text_of status)) }
-    ensures failed { OnErr result (Rose (E.faults err.old) (E.faults err.new)) }
-    ensures front { OnErr result (TookFront (E.taken err.old) (E.taken err.new) (text_of status)) }
-    ensures no_failure { OnOk result (E.failures err.new ≡ E.failures err.old) }
-    ensures failed_last { OnErr result
-        (FailedLast (E.failures err.old) (E.failures err.new) (E.since err.new)) }
-    ensures count { E.faults err.old ≤ E.faults err.new }
+    ensures told { Writes E.taken E.faults E.failures E.since (text_of status) err.old err.new result }
 {
     write_told(err, Teller::Analyzer, USAGE, status)
 }

@@ -1,5 +1,5 @@
 -- What files give, from what reading them gives.
-use Rattle.std.proofs.Common.{ℕ, ◌≡◌, ◌<◌, ◌≤◌, List, Option, None, Some, Result, Ok, Err, arith, refl}
+use Rattle.std.proofs.Common.{ℕ, ◌≡◌, ◌∙◌, ◌<◌, ◌≤◌, List, Option, None, Some, Result, Ok, Err, arith, refl}
 use Rattle.std.specs.Prelude.{length}
 use Rattle.tv_lex.specs.Gather.{Gathers, GatherCause}
 use Rattle.tv_lex.specs.declared.gatherer.GatherError.{GatherError}
@@ -15,7 +15,7 @@ use Rattle.tv_status.specs.declared.status.Role.{Role}
 use Rattle.tv_status.specs.declared.status.Role.TheVariants as role
 use Rattle.tv_texts.specs.Faults.{fault_of_gathering, fault_of_reading}
 use Rattle.tv_texts.specs.Files.{HoldsSuch, IsProgramFile, LacksFile, IsLong, IsFileCause, IsTextCause}
-use Rattle.tv_texts.specs.Files.{UnlessNotRead}
+use Rattle.tv_texts.specs.Files.{UnlessNotRead, Handles}
 use Rattle.tv_texts.specs.Meaning.{MeansProgram}
 use Rattle.tv_texts.specs.declared.fault.TextFault.{TextFault}
 use Rattle.tv_texts.specs.declared.fault.TextFault.TheVariants.{Refused, NotRead, Memory}
@@ -97,3 +97,24 @@ holds_anyway (Ok found) P h = h
 holds_anyway (Err (Refused its k)) P h = h
 holds_anyway (Err NotRead) P h = tt
 holds_anyway (Err Memory) P h = h
+
+-- how two calls leave files, one after the other, of which the first didn't fail
+pub then_handles : {F : Type 0} (holds : F → Option Held) (faults : F → ℕ) (steady : F → Type 0)
+    (Unless Then : Type 0 → Type 0) (old mid new : F) → ((P Q : Type 0) → (P → Q) → Unless P → Then Q)
+    → Handles holds faults steady (λ P. P) old mid → Handles holds faults steady Unless mid new
+    → Handles holds faults steady Then old new
+then_handles holds faults steady Unless Then old mid new map first next = (
+  next.0 ∙ first.0,
+  omega (arith, first.1, next.1),
+  λ s.
+      let before = first.2 s in
+      map (steady new × (faults new ≡ faults mid)) (steady new × (faults new ≡ faults old))
+      (λ h. still (faults old) (faults mid) (faults new) (steady new) before.1 h) (next.2 before.0),
+)
+
+-- and neither of which failed
+pub also_handles : {F : Type 0} (holds : F → Option Held) (faults : F → ℕ) (steady : F → Type 0) (old mid new : F)
+    → Handles holds faults steady (λ P. P) old mid → Handles holds faults steady (λ P. P) mid new
+    → Handles holds faults steady (λ P. P) old new
+also_handles holds faults steady old mid new first next =
+    then_handles holds faults steady (λ P. P) (λ P. P) old mid new (λ P Q f h. f h) first next

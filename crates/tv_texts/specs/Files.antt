@@ -1,11 +1,12 @@
 -- What named files mean, where it is told what names hold.
-use Rattle.std.specs.Prelude.{ℕ, ◌≡◌, ◌<◌, List, [], length, Option, None, Some, Result, Ok, Err}
+use Rattle.std.specs.Prelude.{ℕ, ◌≡◌, ◌<◌, ◌≤◌, List, [], length, Option, None, Some, Result, Ok, Err, IfErr}
 use Rattle.tv_lex.specs.Gather.{Gathers, BeginsBy, BeginsAtMost, come_to, deepest_include, file_events}
 use Rattle.tv_lex.specs.declared.gatherer.GatherError.{GatherError}
 use Rattle.tv_lex.specs.declared.gatherer.GatherError.TheVariants.{Failed, Memory}
 use Rattle.tv_listing.specs.declared.analysis.Analysis.{Analysis}
 use Rattle.tv_model.specs.declared.program.Program.{Program}
-use Rattle.tv_outside.specs.Told.{Held, content_of}
+use Rattle.tv_outside.specs.Count.{Rose, counted}
+use Rattle.tv_outside.specs.Told.{Held, HoldsName, content_of}
 use Rattle.tv_status.specs.declared.status.FileKind.{FileKind}
 use Rattle.tv_status.specs.declared.status.FileKind.TheVariants.{Gathering, TooLong}
 use Rattle.tv_status.specs.declared.status.Role.{Role}
@@ -97,3 +98,33 @@ BeginsUpTo (Ok found) told times old new = BeginsBy told times old new
 BeginsUpTo (Err (Refused role kind)) told times old new = BeginsBy told times old new
 BeginsUpTo (Err NotRead) told times old new = BeginsAtMost told times old new
 BeginsUpTo (Err NoMemory) told times old new = BeginsAtMost told times old new
+
+-- ---- how files are left
+
+-- How a call leaves the files that it reads: no name holds anything else, no count of faults falls, and steady
+-- files stay steady without a fault, wherever `Unless` asks for that.
+abbrev pub Handles : {F : Type 0} → (holds : F → Option Held) → (faults : F → ℕ) → (steady : F → Type 0)
+    → (Unless : Type 0 → Type 0) → (old new : F) → Type 0
+Handles holds faults steady Unless old new = (holds new ≡ holds old) × (faults old ≤ faults new)
+    × (steady old → Unless (steady new × (faults new ≡ faults old)))
+
+-- A call that reads the one file of this name, which has this role: why it means nothing; the file is begun
+-- once; and how files are left.
+abbrev pub ReadsFile : {F T : Type 0} → (holds : F → Option Held) → (faults begins : F → ℕ)
+    → (steady : F → Type 0) → Role → (name : List ℕ) → (Refuses : FileKind → Type 0) → (old new : F)
+    → Result T TextFault → Type 0
+ReadsFile holds faults begins steady role name Refuses old new result =
+    IfErr result (IsFileCause role Refuses (¬ HoldsName (holds old) name) (Rose (faults old) (faults new))
+    (steady old))
+    × (begins new ≡ counted (begins old) 1)
+    × Handles holds faults steady (UnlessNotRead result) old new
+
+-- A call that reads what has this role, from as many files as `times` says: why it means nothing, where
+-- `lacks` says that a file isn't there; how often files are begun; and how they are left.
+abbrev pub ReadsFiles : {F T : Type 0} → (holds : F → Option Held) → (faults begins : F → ℕ)
+    → (steady : F → Type 0) → Role → (lacks : Type 0) → (times : Held → ℕ) → (Refuses : FileKind → Type 0)
+    → (old new : F) → Result T TextFault → Type 0
+ReadsFiles holds faults begins steady role lacks times Refuses old new result =
+    IfErr result (IsFileCause role Refuses lacks (Rose (faults old) (faults new)) (steady old))
+    × BeginsUpTo result (holds old) times (begins old) (begins new)
+    × Handles holds faults steady (UnlessNotRead result) old new

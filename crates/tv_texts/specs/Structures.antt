@@ -1,10 +1,12 @@
 -- Texts of structures, with what they mean.
-use Rattle.std.specs.Prelude.{ℕ, ◌≤◌, List, length, Option, Ok}
+use Rattle.std.specs.Prelude.{ℕ, ◌≤◌, ◌<◌, ◌^◌, All, List, length, Option, Ok}
 use Rattle.tv_lex.specs.Gather.{longest_gathered}
 use Rattle.tv_lex.specs.Pieces.{Reads}
 use Rattle.tv_lex.specs.Token.{spec_tokens}
 use Rattle.tv_model.specs.declared.program.Program.{Program}
+use Rattle.tv_model.specs.declared.program.Vocab.{Vocab}
 use Rattle.tv_outside.specs.Told.{Held, IsContent}
+use Rattle.tv_structure_form.specs.StructureForm.{StructureForm, IsOver, IsStructure}
 use Rattle.tv_tvs.specs.Meaning.{MeansStructs}
 use Rattle.tv_texts.specs.declared.structures.StructuresText.{StructuresText}
 
@@ -20,3 +22,7 @@ pub record IsStructuresText (told : Option Held) (name : List ℕ) (program : Pr
     (text : StructuresText) : Type 0 where
   pub content : IsContent told name text.bytes.items
   pub read : AreRead program text
+
+-- structures over the vocabulary, of which a file of initial structures has that many at most
+abbrev pub AreInitial : Vocab → List StructureForm → Type 0
+AreInitial vocab ss = All (IsOver vocab) ss × All IsStructure ss × (length ss < 2 ^ 32)

@@ -1,23 +1,23 @@
 //! What named files mean.
 
-ghost use Rattle.std.specs.Prelude.{◌≡◌, ◌≤◌, ◌<◌, ◌^◌, All, None, Ok, Err, length, IfOk, IfErr};
+ghost use Rattle.std.specs.Prelude.{◌≡◌, ◌≤◌, None, Ok, Err, length, IfOk};
 ghost use Rattle.tv_lex.specs.Bytes.{longest_text};
-ghost use Rattle.tv_lex.specs.Gather.{longest_gathered};
 ghost use Rattle.tv_listing.specs.Listed.{IsListing};
 ghost use Rattle.tv_model.specs.Program.{program_of};
 ghost use Rattle.tv_model.specs.Valid.{IsValid};
-ghost use Rattle.tv_outside.specs.Count.{Rose, counted};
-ghost use Rattle.tv_outside.specs.Told.{HoldsName, IsContent};
+ghost use Rattle.tv_outside.specs.Told.{IsContent};
 ghost use Rattle.tv_status.specs.declared.status.Role.TheVariants as role;
-ghost use Rattle.tv_structure_form.specs.StructureForm.{IsStructure, IsOver};
+ghost use Rattle.tv_structure_form.specs.StructureForm.{IsOver};
 ghost use Rattle.tv_trace.specs.Meaning.{IsTraceOn};
 ghost use Rattle.tv_two_valued.specs.TwoValued.{IsTwoValued};
 ghost use Rattle.tv_texts.specs.Files.{IsProgramFile, LacksFile, IsInitialFile, IsStartFile, IsTraceFile};
-ghost use Rattle.tv_texts.specs.Files.{IsReportFile, IsSourceFile, IsFileCause, IsLong, UnlessNotRead};
-ghost use Rattle.tv_texts.specs.Files.{BeginsUpTo, program_begins};
+ghost use Rattle.tv_texts.specs.Files.{IsReportFile, IsSourceFile, IsLong, ReadsFile, ReadsFiles};
+ghost use Rattle.tv_texts.specs.Files.{program_begins};
+ghost use Rattle.tv_texts.specs.Structures.{AreInitial};
 
 use crate::fault::{TextFault, fault_of_reading};
-use crate::texts::{initial_in, program_in, report_in, source_in, start_in, trace_in};
+use crate::source::{SourceText, load_source_text};
+use crate::texts::{initial_in, program_in, report_in, start_in, trace_in};
 use std::alloc::Global;
 use tv_lex::{MAX_TEXT, gather};
 use tv_listing::Analysis;
@@ -42,14 +42,8 @@ pub(crate) fn read_file<F: Files>(
     requires { limit ≤ longest_text }
     ensures content { IfOk result (λ bytes. IsContent (F.holds files.old) name.now bytes.items) }
     ensures fits { IfOk result (λ bytes. length bytes.items ≤ limit) }
-    ensures cause { IfErr result (IsFileCause role (IsLong (F.holds files.old) name.now limit)
-        (¬ HoldsName (F.holds files.old) name.now)
-        (Rose (F.faults files.old) (F.faults files.new)) (F.steady files.old)) }
-    ensures holds { F.holds files.new ≡ F.holds files.old }
-    ensures begins { F.begins files.new ≡ counted (F.begins files.old) 1 }
-    ensures count { F.faults files.old ≤ F.faults files.new }
-    ensures steady { F.steady files.old → UnlessNotRead result (F.steady files.new
-        × (F.faults files.new ≡ F.faults files.old)) }
+    ensures read { ReadsFile F.holds F.faults F.begins F.steady role name.now
+        (IsLong (F.holds files.old) name.now limit) files.old files.new result }
 {
     match read_all(alloc, files, name, limit) {
         Ok(bytes) => Ok(bytes),
@@ -71,16 +65,9 @@ pub fn load_program<F: Files>(
 ) -> Result<Program, TextFault>
     ensures means { IfOk result (λ p. IsProgramFile (F.holds files.old) name.now (Ok p)) }
     ensures valid { IfOk result (λ p. IsValid (program_of p)) }
-    ensures cause { IfErr result (IsFileCause role.Program (λ kind. IsProgramFile
-        (F.holds files.old) name.now (Err kind))
-        (LacksFile (F.holds files.old) name.now) (Rose (F.faults files.old) (F.faults files.new))
-        (F.steady files.old)) }
-    ensures holds { F.holds files.new ≡ F.holds files.old }
-    ensures begins { BeginsUpTo result (F.holds files.old) (λ held. program_begins held name.now)
-        (F.begins files.old) (F.begins files.new) }
-    ensures count { F.faults files.old ≤ F.faults files.new }
-    ensures steady { F.steady files.old → UnlessNotRead result (F.steady files.new
-        × (F.faults files.new ≡ F.faults files.old)) }
+    ensures read { ReadsFiles F.holds F.faults F.begins F.steady role.Program
+        (LacksFile (F.holds files.old) name.now) (λ held. program_begins held name.now)
+        (λ kind. IsProgramFile (F.holds files.old) name.now (Err kind)) files.old files.new result }
 {
     let gathered = gather(alloc, files, name)?;
     program_in(alloc, &gathered.bytes)
@@ -100,18 +87,9 @@ pub fn load_initial<F: Files>(
 ) -> Result<Structures, TextFault>
     requires valid { IsValid (program_of program.now) }
     ensures means { IfOk result (λ ss. IsInitialFile (F.holds files.old) name.now program.now (Ok ss)) }
-    ensures over { IfOk result (All (IsOver program.now.vocab)) }
-    ensures kept { IfOk result (All IsStructure) }
-    ensures few { IfOk result (λ ss. length ss < 2 ^ 32) }
-    ensures cause { IfErr result (IsFileCause role.Initial (λ kind. IsInitialFile
-        (F.holds files.old) name.now program.now (Err kind))
-        (¬ HoldsName (F.holds files.old) name.now) (Rose (F.faults files.old) (F.faults files.new))
-        (F.steady files.old)) }
-    ensures holds { F.holds files.new ≡ F.holds files.old }
-    ensures begins { F.begins files.new ≡ counted (F.begins files.old) 1 }
-    ensures count { F.faults files.old ≤ F.faults files.new }
-    ensures steady { F.steady files.old → UnlessNotRead result (F.steady files.new
-        × (F.faults files.new ≡ F.faults files.old)) }
+    ensures are { IfOk result (AreInitial program.now.vocab) }
+    ensures read { ReadsFile F.holds F.faults F.begins F.steady role.Initial name.now
+        (λ kind. IsInitialFile (F.holds files.old) name.now program.now (Err kind)) files.old files.new result }
 {
     let bytes = read_file(alloc, files, name, Role::Initial, MAX_TEXT)?;
     initial_in(alloc, program, &bytes)
@@ -133,15 +111,8 @@ pub fn load_start<F: Files>(
     ensures means { IfOk result (λ s. IsStartFile (F.holds files.old) name.now program.now (Ok s)) }
     ensures over { IfOk result (λ s. IsOver program.now.vocab s × (s.fresh ≡ None)) }
     ensures heap { IfOk result IsTwoValued }
-    ensures cause { IfErr result (IsFileCause role.Start (λ kind. IsStartFile
-        (F.holds files.old) name.now program.now (Err kind))
-        (¬ HoldsName (F.holds files.old) name.now) (Rose (F.faults files.old) (F.faults files.new))
-        (F.steady files.old)) }
-    ensures holds { F.holds files.new ≡ F.holds files.old }
-    ensures begins { F.begins files.new ≡ counted (F.begins files.old) 1 }
-    ensures count { F.faults files.old ≤ F.faults files.new }
-    ensures steady { F.steady files.old → UnlessNotRead result (F.steady files.new
-        × (F.faults files.new ≡ F.faults files.old)) }
+    ensures read { ReadsFile F.holds F.faults F.begins F.steady role.Start name.now
+        (λ kind. IsStartFile (F.holds files.old) name.now program.now (Err kind)) files.old files.new result }
 {
     let bytes = read_file(alloc, files, name, Role::Start, MAX_TEXT)?;
     start_in(alloc, program, &bytes)
@@ -162,15 +133,8 @@ pub fn load_trace<F: Files>(
     requires valid { IsValid (program_of program.now) }
     ensures means { IfOk result (λ t. IsTraceFile (F.holds files.old) name.now program.now (Ok t)) }
     ensures kept { IfOk result (IsTraceOn program.now) }
-    ensures cause { IfErr result (IsFileCause role.Trace (λ kind. IsTraceFile
-        (F.holds files.old) name.now program.now (Err kind))
-        (¬ HoldsName (F.holds files.old) name.now) (Rose (F.faults files.old) (F.faults files.new))
-        (F.steady files.old)) }
-    ensures holds { F.holds files.new ≡ F.holds files.old }
-    ensures begins { F.begins files.new ≡ counted (F.begins files.old) 1 }
-    ensures count { F.faults files.old ≤ F.faults files.new }
-    ensures steady { F.steady files.old → UnlessNotRead result (F.steady files.new
-        × (F.faults files.new ≡ F.faults files.old)) }
+    ensures read { ReadsFile F.holds F.faults F.begins F.steady role.Trace name.now
+        (λ kind. IsTraceFile (F.holds files.old) name.now program.now (Err kind)) files.old files.new result }
 {
     let bytes = read_file(alloc, files, name, Role::Trace, MAX_TEXT)?;
     trace_in(alloc, program, &bytes)
@@ -191,15 +155,8 @@ pub fn load_report<F: Files>(
     requires valid { IsValid (program_of program.now) }
     ensures means { IfOk result (λ a. IsReportFile (F.holds files.old) name.now program.now (Ok a)) }
     ensures kept { IfOk result (λ a. IsListing program.now a.listing) }
-    ensures cause { IfErr result (IsFileCause role.Report (λ kind. IsReportFile
-        (F.holds files.old) name.now program.now (Err kind))
-        (¬ HoldsName (F.holds files.old) name.now) (Rose (F.faults files.old) (F.faults files.new))
-        (F.steady files.old)) }
-    ensures holds { F.holds files.new ≡ F.holds files.old }
-    ensures begins { F.begins files.new ≡ counted (F.begins files.old) 1 }
-    ensures count { F.faults files.old ≤ F.faults files.new }
-    ensures steady { F.steady files.old → UnlessNotRead result (F.steady files.new
-        × (F.faults files.new ≡ F.faults files.old)) }
+    ensures read { ReadsFile F.holds F.faults F.begins F.steady role.Report name.now
+        (λ kind. IsReportFile (F.holds files.old) name.now program.now (Err kind)) files.old files.new result }
 {
     let bytes = read_file(alloc, files, name, Role::Report, MAX_REPORT)?;
     report_in(alloc, program, &bytes)
@@ -211,20 +168,13 @@ pub fn load_report<F: Files>(
 /// # Errors
 /// It is refused where it means no source program or one too large. It isn't read only where a call of
 /// `files` failed, and on steady files only where they lack it. Or memory ran out.
-#[tactic(auto, using(crate::proofs::Loading::too_long, crate::proofs::Loading::held_refused, crate::proofs::Loading::holds_such, crate::proofs::Loading::holds_anyway))]
+#[tactic(auto, using(crate::proofs::Sources::source_file))]
 pub fn load_source<F: Files>(alloc: Global, files: &mut F, name: &str) -> Result<Program, TextFault>
     ensures means { IfOk result (λ p. IsSourceFile (F.holds files.old) name.now (Ok p)) }
     ensures valid { IfOk result (λ p. IsValid (program_of p)) }
-    ensures cause { IfErr result (IsFileCause role.Source (λ kind. IsSourceFile
-        (F.holds files.old) name.now (Err kind))
-        (¬ HoldsName (F.holds files.old) name.now) (Rose (F.faults files.old) (F.faults files.new))
-        (F.steady files.old)) }
-    ensures holds { F.holds files.new ≡ F.holds files.old }
-    ensures begins { F.begins files.new ≡ counted (F.begins files.old) 1 }
-    ensures count { F.faults files.old ≤ F.faults files.new }
-    ensures steady { F.steady files.old → UnlessNotRead result (F.steady files.new
-        × (F.faults files.new ≡ F.faults files.old)) }
+    ensures read { ReadsFile F.holds F.faults F.begins F.steady role.Source name.now
+        (λ kind. IsSourceFile (F.holds files.old) name.now (Err kind)) files.old files.new result }
 {
-    let bytes = read_file(alloc, files, name, Role::Source, MAX_TEXT)?;
-    source_in(alloc, &bytes)
+    let SourceText { program, .. } = load_source_text(alloc, files, name)?;
+    Ok(program)
 }

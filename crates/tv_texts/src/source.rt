@@ -5,18 +5,18 @@ ghost use Rattle.tv_lex.specs.Gather.{longest_gathered};
 ghost use Rattle.tv_lex.specs.Pieces.{Reads};
 ghost use Rattle.tv_model.specs.Program.{program_of};
 ghost use Rattle.tv_model.specs.Valid.{IsValid};
-ghost use Rattle.tv_outside.specs.Count.{Rose, counted};
-ghost use Rattle.tv_outside.specs.Told.{HoldsName, IsContent};
 ghost use Rattle.tv_status.specs.declared.status.Role.TheVariants as role;
-ghost use Rattle.tv_texts.specs.Files.{IsFileCause, IsSourceFile, IsTextCause, UnlessNotRead};
+ghost use Rattle.tv_texts.specs.Files.{IsSourceFile, IsTextCause, ReadsFile};
 ghost use Rattle.tv_texts.specs.Meaning.{MeansSource};
 ghost use Rattle.tv_texts.specs.Sources.{IsCompiled, IsSourceText};
 
-use crate::fault::{TextFault, fault_of_lexing, fault_of_reading};
+use crate::fault::TextFault;
+use crate::files::read_file;
+use crate::texts::tokens_in;
 use std::alloc::Global;
-use tv_lex::{MAX_TEXT, Tokens, lex};
+use tv_lex::{MAX_TEXT, Tokens};
 use tv_model::Program;
-use tv_outside::{Files, read_all};
+use tv_outside::Files;
 use tv_plang::compile;
 use tv_status::Role;
 
@@ -26,41 +26,6 @@ pub struct SourceText {
     pub bytes: Vec<u8>,
     pub tokens: Tokens,
     pub program: Program,
-}
-
-/// The content of the named file, where it has at most 4,194,304 bytes. It is begun once.
-#[tactic(auto, using(crate::proofs::Sources::not_read))]
-fn read_file<F: Files>(alloc: Global, files: &mut F, name: &str) -> Result<Vec<u8>, TextFault>
-    ensures content { IfOk result (λ bytes. IsContent (F.holds files.old) name.now bytes.items) }
-    ensures fits { IfOk result (λ bytes. length bytes.items ≤ longest_gathered) }
-    ensures cause { IfErr result (IsFileCause role.Source
-        (λ kind. IsSourceFile (F.holds files.old) name.now (Err kind))
-        (¬ HoldsName (F.holds files.old) name.now) (Rose (F.faults files.old) (F.faults files.new))
-        (F.steady files.old)) }
-    ensures holds { F.holds files.new ≡ F.holds files.old }
-    ensures begins { F.begins files.new ≡ counted (F.begins files.old) 1 }
-    ensures count { F.faults files.old ≤ F.faults files.new }
-    ensures steady { F.steady files.old → UnlessNotRead result (F.steady files.new
-        × (F.faults files.new ≡ F.faults files.old)) }
-{
-    match read_all(alloc, files, name, MAX_TEXT) {
-        Ok(bytes) => Ok(bytes),
-        Err(error) => Err(fault_of_reading(error, Role::Source)),
-    }
-}
-
-/// The tokens of the text.
-#[tactic(auto, using(crate::proofs::Sources::unlexed))]
-fn tokens_in(alloc: Global, bytes: &[u8]) -> Result<Tokens, TextFault>
-    requires { length bytes.now ≤ longest_gathered }
-    ensures tokens { IfOk result (λ t. Reads bytes.now (Ok t.list.items)) }
-    ensures cause { IfErr result
-        (IsTextCause role.Source (λ kind. MeansSource bytes.now (Err kind))) }
-{
-    match lex(alloc, bytes) {
-        Ok(tokens) => Ok(tokens),
-        Err(error) => Err(fault_of_lexing(error, Role::Source)),
-    }
 }
 
 /// The program that the text, of these tokens, is compiled to.
@@ -77,6 +42,7 @@ fn program_in(alloc: Global, bytes: &[u8], tokens: &Tokens) -> Result<Program, T
 }
 
 /// The text, with its tokens and the program that it is compiled to.
+#[tactic(auto, using(crate::proofs::Refusals::source_unlexed))]
 fn source_in(alloc: Global, bytes: Vec<u8>) -> Result<SourceText, TextFault>
     requires { length bytes.items ≤ longest_gathered }
     ensures same { IfOk result (λ s. s.bytes.items ≡ bytes.items) }
@@ -85,7 +51,7 @@ fn source_in(alloc: Global, bytes: Vec<u8>) -> Result<SourceText, TextFault>
     ensures cause { IfErr result
         (IsTextCause role.Source (λ kind. MeansSource bytes.items (Err kind))) }
 {
-    let tokens = tokens_in(alloc, &bytes)?;
+    let tokens = tokens_in(alloc, &bytes, Role::Source)?;
     let program = program_in(alloc, &bytes, &tokens)?;
     Ok(SourceText {
         bytes,
@@ -100,7 +66,7 @@ fn source_in(alloc: Global, bytes: Vec<u8>) -> Result<SourceText, TextFault>
 /// # Errors
 /// It is refused where it means no source program or one too large. It isn't read only where a call of
 /// `files` failed, and on steady files only where they lack it. Or memory ran out.
-#[tactic(auto, using(crate::proofs::Sources::held, crate::proofs::Loading::holds_anyway))]
+#[tactic(auto, using(crate::proofs::Sources::held, crate::proofs::Loading::too_long, crate::proofs::Loading::held_refused, crate::proofs::Loading::holds_anyway))]
 pub fn load_source_text<F: Files>(
     alloc: Global,
     files: &mut F,
@@ -108,16 +74,9 @@ pub fn load_source_text<F: Files>(
 ) -> Result<SourceText, TextFault>
     ensures means { IfOk result (IsSourceText (F.holds files.old) name.now) }
     ensures valid { IfOk result (λ s. IsValid (program_of s.program)) }
-    ensures cause { IfErr result (IsFileCause role.Source
-        (λ kind. IsSourceFile (F.holds files.old) name.now (Err kind))
-        (¬ HoldsName (F.holds files.old) name.now) (Rose (F.faults files.old) (F.faults files.new))
-        (F.steady files.old)) }
-    ensures holds { F.holds files.new ≡ F.holds files.old }
-    ensures begins { F.begins files.new ≡ counted (F.begins files.old) 1 }
-    ensures count { F.faults files.old ≤ F.faults files.new }
-    ensures steady { F.steady files.old → UnlessNotRead result (F.steady files.new
-        × (F.faults files.new ≡ F.faults files.old)) }
+    ensures read { ReadsFile F.holds F.faults F.begins F.steady role.Source name.now
+        (λ kind. IsSourceFile (F.holds files.old) name.now (Err kind)) files.old files.new result }
 {
-    let bytes = read_file(alloc, files, name)?;
+    let bytes = read_file(alloc, files, name, Role::Source, MAX_TEXT)?;
     source_in(alloc, bytes)
 }

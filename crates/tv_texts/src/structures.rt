@@ -1,17 +1,15 @@
 //! Structures, with their text and its tokens.
 
-ghost use Rattle.std.specs.Prelude.{◌≡◌, ◌≤◌, ◌<◌, ◌^◌, All, None, Ok, Err, IfOk, IfErr, length};
+ghost use Rattle.std.specs.Prelude.{◌≡◌, ◌≤◌, All, None, Ok, Err, IfOk, IfErr, length};
 ghost use Rattle.tv_lex.specs.Gather.{longest_gathered};
 ghost use Rattle.tv_lex.specs.Pieces.{Reads};
 ghost use Rattle.tv_lex.specs.Token.{spec_tokens};
 ghost use Rattle.tv_model.specs.Program.{program_of};
 ghost use Rattle.tv_model.specs.Valid.{IsValid};
-ghost use Rattle.tv_outside.specs.Count.{Rose, counted};
-ghost use Rattle.tv_outside.specs.Told.{HoldsName};
 ghost use Rattle.tv_status.specs.declared.status.Role.TheVariants as role;
-ghost use Rattle.tv_structure_form.specs.StructureForm.{IsOver, IsStructure};
+ghost use Rattle.tv_structure_form.specs.StructureForm.{IsOver};
 ghost use Rattle.tv_tvs.specs.Meaning.{MeansStructs};
-ghost use Rattle.tv_texts.specs.Files.{IsFileCause, IsInitialFile, IsTextCause, UnlessNotRead};
+ghost use Rattle.tv_texts.specs.Files.{IsInitialFile, IsTextCause, ReadsFile};
 ghost use Rattle.tv_texts.specs.Meaning.{MeansInitial};
 ghost use Rattle.tv_texts.specs.Structures.{AreRead, IsStructuresText};
 
@@ -98,15 +96,8 @@ pub fn load_structures_text<F: Files>(
     requires valid { IsValid (program_of program.now) }
     ensures means { IfOk result (IsStructuresText (F.holds files.old) name.now program.now) }
     ensures over { IfOk result (λ t. All (λ s. IsOver program.now.vocab s × (s.fresh ≡ None)) t.structures) }
-    ensures cause { IfErr result (IsFileCause role.Initial (λ kind. IsInitialFile
-        (F.holds files.old) name.now program.now (Err kind))
-        (¬ HoldsName (F.holds files.old) name.now) (Rose (F.faults files.old) (F.faults files.new))
-        (F.steady files.old)) }
-    ensures holds { F.holds files.new ≡ F.holds files.old }
-    ensures begins { F.begins files.new ≡ counted (F.begins files.old) 1 }
-    ensures count { F.faults files.old ≤ F.faults files.new }
-    ensures steady { F.steady files.old → UnlessNotRead result (F.steady files.new
-        × (F.faults files.new ≡ F.faults files.old)) }
+    ensures read { ReadsFile F.holds F.faults F.begins F.steady role.Initial name.now
+        (λ kind. IsInitialFile (F.holds files.old) name.now program.now (Err kind)) files.old files.new result }
 {
     let bytes = read_file(alloc, files, name, Role::Initial, MAX_TEXT)?;
     structures_text_in(alloc, program, bytes)

@@ -12,7 +12,8 @@ ghost use Rattle.tv_status.specs.declared.status.Role.TheVariants as role;
 ghost use Rattle.tv_structure_form.specs.StructureForm.{IsOver, IsStructure};
 ghost use Rattle.tv_texts.specs.Files.{IsTextCause};
 ghost use Rattle.tv_texts.specs.Meaning.{IsUnlexed, AreOneHeap, MeansProgram, MeansInitial, MeansStart};
-ghost use Rattle.tv_texts.specs.Meaning.{MeansMoves, MeansReport, MeansSource};
+ghost use Rattle.tv_texts.specs.Meaning.{MeansMoves, MeansReport};
+ghost use Rattle.tv_texts.specs.Structures.{AreInitial};
 ghost use Rattle.tv_texts.specs.declared.fault.TextFault.TheVariants.{Refused};
 ghost use Rattle.tv_trace.specs.Meaning.{IsTraceOn};
 ghost use Rattle.tv_two_valued.specs.TwoValued.{IsTwoValued};
@@ -25,7 +26,6 @@ use tv_front::read_program;
 use tv_lex::{Tokens, lex};
 use tv_listing::Analysis;
 use tv_model::Program;
-use tv_plang::compile;
 use tv_report::{read_report, read_written};
 use tv_status::{FileKind, Role};
 use tv_struct::{Structure, Structures};
@@ -95,9 +95,7 @@ pub fn initial_in(alloc: Global, program: &Program, bytes: &[u8]) -> Result<Stru
     requires valid { IsValid (program_of program.now) }
     requires size { length bytes.now ≤ longest_gathered }
     ensures means { IfOk result (λ ss. MeansInitial program.now bytes.now (Ok ss)) }
-    ensures over { IfOk result (All (IsOver program.now.vocab)) }
-    ensures kept { IfOk result (All IsStructure) }
-    ensures few { IfOk result (λ ss. length ss < 2 ^ 32) }
+    ensures are { IfOk result (AreInitial program.now.vocab) }
     ensures cause { IfErr result (IsTextCause role.Initial (λ kind. MeansInitial program.now bytes.now
         (Err kind))) }
 {
@@ -162,28 +160,12 @@ pub(crate) fn trace_in(alloc: Global, program: &Program, bytes: &[u8]) -> Result
     }
 }
 
-/// The report on a program that the tokens of a text are.
-#[tactic(auto, using(crate::proofs::Refusals::report_unlexed, crate::proofs::Refusals::report_refused))]
-fn report_by_tokens(alloc: Global, program: &Program, bytes: &[u8]) -> Result<Analysis, TextFault>
-    requires valid { IsValid (program_of program.now) }
-    requires size { length bytes.now ≤ longest_text }
-    ensures means { IfOk result (λ a. MeansReport program.now bytes.now (Ok a)) }
-    ensures kept { IfOk result (λ a. IsListing program.now a.listing) }
-    ensures cause { IfErr result (IsTextCause role.Report (λ kind. MeansReport program.now bytes.now
-        (Err kind))) }
-{
-    let tokens = tokens_in(alloc, bytes, Role::Report)?;
-    match read_report(alloc, program, bytes, &tokens) {
-        Ok(analysis) => Ok(analysis),
-        Err(error) => Err(fault_of_report(error)),
-    }
-}
-
 /// The report on a program that a text of at most 67,108,864 bytes is. One that stands there as it is written
 /// needs no tokens.
 ///
 /// # Errors
 /// It is refused where it is none; or memory ran out.
+#[tactic(auto, using(crate::proofs::Refusals::report_unlexed, crate::proofs::Refusals::report_refused))]
 pub fn report_in(alloc: Global, program: &Program, bytes: &[u8]) -> Result<Analysis, TextFault>
     requires valid { IsValid (program_of program.now) }
     requires size { length bytes.now ≤ longest_text }
@@ -193,23 +175,13 @@ pub fn report_in(alloc: Global, program: &Program, bytes: &[u8]) -> Result<Analy
         (Err kind))) }
 {
     match read_written(alloc, program, bytes) {
-        Ok(Some(analysis)) => Ok(analysis),
-        Ok(None) => report_by_tokens(alloc, program, bytes),
-        Err(_) => Err(TextFault::Memory),
+        Ok(Some(analysis)) => return Ok(analysis),
+        Ok(None) => (),
+        Err(_) => return Err(TextFault::Memory),
     }
-}
-
-/// The program that a text of the pointer language, of at most 4,194,304 bytes, is compiled to. It is valid.
-///
-/// # Errors
-/// It is refused where it means no source program or one too large; or memory ran out.
-#[tactic(auto, using(crate::proofs::Refusals::source_unlexed, crate::proofs::Refusals::source_refused))]
-pub(crate) fn source_in(alloc: Global, bytes: &[u8]) -> Result<Program, TextFault>
-    requires size { length bytes.now ≤ longest_gathered }
-    ensures means { IfOk result (λ p. MeansSource bytes.now (Ok p)) }
-    ensures valid { IfOk result (λ p. IsValid (program_of p)) }
-    ensures cause { IfErr result (IsTextCause role.Source (λ kind. MeansSource bytes.now (Err kind))) }
-{
-    let tokens = tokens_in(alloc, bytes, Role::Source)?;
-    Ok(compile(alloc, bytes, &tokens)?)
+    let tokens = tokens_in(alloc, bytes, Role::Report)?;
+    match read_report(alloc, program, bytes, &tokens) {
+        Ok(analysis) => Ok(analysis),
+        Err(error) => Err(fault_of_report(error)),
+    }
 }

@@ -1,12 +1,12 @@
 //! The files of a command, read and understood.
 
-ghost use Rattle.std.specs.Prelude.{◌≡◌, ◌≤◌, ◌+◌, Ok, Err, IfOk, IfErr, OnOk};
+ghost use Rattle.std.specs.Prelude.{◌≡◌, ◌+◌, Ok, Err, IfOk, IfErr, OnOk};
 ghost use Rattle.tv_model.specs.Program.{program_of};
 ghost use Rattle.tv_model.specs.Valid.{IsValid};
 ghost use Rattle.tv_outside.specs.Count.{Rose};
 ghost use Rattle.tv_status.specs.declared.status.Role.TheVariants as role;
 ghost use Rattle.tv_lex.specs.Gather.{BeginsBy};
-ghost use Rattle.tv_texts.specs.Files.{LacksFile, IsFileCause, UnlessNotRead, BeginsUpTo, program_begins};
+ghost use Rattle.tv_texts.specs.Files.{Handles, LacksFile, ReadsFiles, program_begins};
 ghost use Rattle.tv_top.specs.Begins.{BeginsMet, origin_begins};
 ghost use Rattle.tv_top.specs.Call.{IsCommandCause};
 ghost use Rattle.tv_top.specs.Meaning.{FilesMean, IsTakenProgram, mode_of};
@@ -65,15 +65,9 @@ fn load_taken<F: Files>(
     ensures means { IfOk result (λ p. IsTakenProgram delta (F.holds files.old) name.now (Ok p)) }
     ensures runs { IfOk result (HasReadRuns delta (F.holds files.old) name.now) }
     ensures valid { IfOk result (λ p. IsValid (program_of p)) }
-    ensures cause { IfErr result (IsFileCause role.Program (λ kind. IsTakenProgram delta (F.holds files.old)
-        name.now (Err kind)) (LacksFile (F.holds files.old) name.now)
-        (Rose (F.faults files.old) (F.faults files.new)) (F.steady files.old)) }
-    ensures holds { F.holds files.new ≡ F.holds files.old }
-    ensures begins { BeginsUpTo result (F.holds files.old) (λ held. program_begins held name.now)
-        (F.begins files.old) (F.begins files.new) }
-    ensures count { F.faults files.old ≤ F.faults files.new }
-    ensures steady { F.steady files.old → UnlessNotRead result (F.steady files.new
-        × (F.faults files.new ≡ F.faults files.old)) }
+    ensures read { ReadsFiles F.holds F.faults F.begins F.steady role.Program
+        (LacksFile (F.holds files.old) name.now) (λ held. program_begins held name.now)
+        (λ kind. IsTakenProgram delta (F.holds files.old) name.now (Err kind)) files.old files.new result }
 {
     let read = load_program(alloc, files, name)?;
     taken(alloc, read, delta)
@@ -88,15 +82,9 @@ fn load_origin<F: Files>(
     ensures means { IfOk result (λ p. Comes origin.entry (F.holds files.old) (Ok p)) }
     ensures runs { IfOk result (HasRunsOf origin.entry (F.holds files.old)) }
     ensures valid { IfOk result (λ p. IsValid (program_of p)) }
-    ensures cause { IfErr result (IsFileCause (role_of origin.entry)
-        (λ kind. Comes origin.entry (F.holds files.old) (Err kind)) (Lacks origin.entry (F.holds files.old))
-        (Rose (F.faults files.old) (F.faults files.new)) (F.steady files.old)) }
-    ensures holds { F.holds files.new ≡ F.holds files.old }
-    ensures begins { BeginsUpTo result (F.holds files.old) (λ held. origin_begins held origin.entry)
-        (F.begins files.old) (F.begins files.new) }
-    ensures count { F.faults files.old ≤ F.faults files.new }
-    ensures steady { F.steady files.old → UnlessNotRead result (F.steady files.new
-        × (F.faults files.new ≡ F.faults files.old)) }
+    ensures read { ReadsFiles F.holds F.faults F.begins F.steady (role_of origin.entry)
+        (Lacks origin.entry (F.holds files.old)) (λ held. origin_begins held origin.entry)
+        (λ kind. Comes origin.entry (F.holds files.old) (Err kind)) files.old files.new result }
 {
     match origin {
         Origin::Program { name, delta } => load_taken(alloc, files, name, delta),
@@ -118,14 +106,11 @@ pub fn load_inputs<F: Files>(
     ensures cause { IfErr result (λ fault. (command : CommandForm) → Names command origin.entry initial.now
         → IsCommandCause (F.holds files.old) command (Rose (F.faults files.old) (F.faults files.new))
         (F.steady files.old) fault) }
-    ensures holds { F.holds files.new ≡ F.holds files.old }
     ensures begins { OnOk result (BeginsBy (F.holds files.old) (λ held. origin_begins held origin.entry + 1)
         (F.begins files.old) (F.begins files.new)) }
     ensures begun { IfErr result (λ fault. (command : CommandForm) → Names command origin.entry initial.now
         → BeginsMet (F.holds files.old) (F.begins files.old) (F.begins files.new) command fault) }
-    ensures count { F.faults files.old ≤ F.faults files.new }
-    ensures steady { F.steady files.old → UnlessReadFault result (F.steady files.new
-        × (F.faults files.new ≡ F.faults files.old)) }
+    ensures handled { Handles F.holds F.faults F.steady (UnlessReadFault result) files.old files.new }
 {
     let program = load_origin(alloc, files, origin)?;
     let initial = load_initial(alloc, files, initial, &program)?;

@@ -4,7 +4,7 @@
 ghost use Rattle.std.specs.Prelude.{◌≡◌, ◌⊎◌, ◌≤◌, ◌++◌, ℕ, List, Some};
 ghost use Rattle.tv_outside.specs.Count.{Rose};
 ghost use Rattle.tv_outside.specs.Told.{Held};
-ghost use Rattle.tv_status.specs.Delivery.{StopsAtFailure};
+ghost use Rattle.tv_status.specs.Delivery.{Leaves};
 ghost use Rattle.tv_top.specs.Begins.{BeginsDuly, BeginsWithin};
 ghost use Rattle.tv_top.specs.Call.{IsAnswerTo, IsCause, EndsFor, EndsDuly, IsExcuse, HoldsOperands};
 ghost use Rattle.tv_top.specs.Call.{UnlessFault};
@@ -61,9 +61,9 @@ pub fn tvla<F: Files, O: Sink, E: Sink>(
         (Rose (O.faults out.old) (O.faults out.new)) (Rose (E.faults err.old) (E.faults err.new))
         (E.taken err.old) (E.taken err.new) }
 
-    // A sink that has failed is given nothing more.
-    ensures out_stops { StopsAtFailure (O.failures out.old) (O.failures out.new) (O.since out.new) }
-    ensures err_stops { StopsAtFailure (E.failures err.old) (E.failures err.new) (E.since err.new) }
+    // A sink that has failed is given nothing more, and no count of its faults falls.
+    ensures out_left { Leaves O.faults O.failures O.since out.old out.new }
+    ensures err_left { Leaves E.faults E.failures E.since err.old err.new }
 
     // What was read: nothing without a command; where an answer is given, as many files were begun as the
     // command asks for, where one is refused those up to it, and never more; and steady files that hold what
@@ -86,8 +86,6 @@ pub fn tvla<F: Files, O: Sink, E: Sink>(
     // No call changes what a name holds, and no count of faults falls.
     ensures holds { F.holds files.new ≡ F.holds files.old }
     ensures files_count { F.faults files.old ≤ F.faults files.new }
-    ensures out_count { O.faults out.old ≤ O.faults out.new }
-    ensures err_count { E.faults err.old ≤ E.faults err.new }
 
     // Each ending comes wherever it is called for, unless a call outside failed or memory ran out; where no
     // count of faults rose, unless memory ran out.

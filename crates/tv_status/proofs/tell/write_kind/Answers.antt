@@ -3,11 +3,12 @@ use Rattle.std.specs.Prelude.{codes}
 use Rattle.tv_status.specs.Status.{file_fault_text}
 use Rattle.tv_status.proofs.tell.write_kind.Goals as goal
 
-pub returns-clause-front : goal.returns-clause-front
+pub returns-clause-told : goal.returns-clause-told
 unfolding file_fault_text
-returns-clause-front g c =
+returns-clause-told g c =
     let text : file_fault_text c.args.teller c.args.role c.args.kind None
     ≡ c.name.result.now ++ (codes ": " ++ (c.name-2.result.now ++ (codes ": "
     ++ (c.name-3.result.now ++ (c.hint.result.now ++ 10 ∷ [])))))
     = search rules in
-    rw text c.write_parts.ensures.front
+    rw text (c.write_parts.ensures.all, c.write_parts.ensures.front, c.write_parts.ensures.failed,
+    c.write_parts.ensures.no_failure, c.write_parts.ensures.failed_last, c.write_parts.ensures.count)

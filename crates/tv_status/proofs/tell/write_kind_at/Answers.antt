@@ -11,9 +11,9 @@ parts : (teller role kind line column hint : List ℕ)
     ++ (column ++ (hint ++ 10 ∷ [])))))))))
 parts teller role kind line column hint = search (rules, append_assoc)
 
-pub returns-clause-front : goal.returns-clause-front
+pub returns-clause-told : goal.returns-clause-told
 unfolding file_fault_text
-returns-clause-front g c =
+returns-clause-told g c =
     let teller : c.name.result.now ≡ teller_name c.args.teller = c.name.ensures in
     let role : c.name-2.result.now ≡ role_name c.args.role = c.name-2.ensures in
     let kind : c.name-3.result.now ≡ kind_name c.args.kind = c.name-3.ensures in
@@ -21,4 +21,5 @@ returns-clause-front g c =
     let column : c.as_bytes-2.result.now ≡ decimal c.args.place.column = cc in
     let hint : c.hint.result.now ≡ hint_of c.args.teller = c.hint.ensures in
     rw (← teller) (rw (← role) (rw (← kind) (rw (← line) (rw (← column) (rw (← hint)
-    (rw (parts _ _ _ _ _ _) c.write_parts.ensures.front))))))
+    (rw (parts _ _ _ _ _ _) (c.write_parts.ensures.all, c.write_parts.ensures.front, c.write_parts.ensures.failed,
+    c.write_parts.ensures.no_failure, c.write_parts.ensures.failed_last, c.write_parts.ensures.count)))))))

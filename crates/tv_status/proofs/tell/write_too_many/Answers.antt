@@ -3,20 +3,12 @@ use Rattle.std.specs.Prelude.{codes, decimal}
 use Rattle.tv_status.specs.Status.{too_many_text}
 use Rattle.tv_status.proofs.tell.write_too_many.Goals as goal
 
-pub returns-clause-all : goal.returns-clause-all
+pub returns-clause-told : goal.returns-clause-told
 unfolding too_many_text
-returns-clause-all g c =
+returns-clause-told g c =
     let digits : c.as_bytes.result.now ≡ decimal c.args.max = cc in
     let text : too_many_text c.args.teller c.args.max
     ≡ c.name.result.now ++ (codes ": more than " ++ (c.as_bytes.result.now ++ (codes " structures" ++ 10 ∷ [])))
     = search rules in
-    rw text c.write_parts.ensures.all
-
-pub returns-clause-front : goal.returns-clause-front
-unfolding too_many_text
-returns-clause-front g c =
-    let digits : c.as_bytes.result.now ≡ decimal c.args.max = cc in
-    let text : too_many_text c.args.teller c.args.max
-    ≡ c.name.result.now ++ (codes ": more than " ++ (c.as_bytes.result.now ++ (codes " structures" ++ 10 ∷ [])))
-    = search rules in
-    rw text c.write_parts.ensures.front
+    rw text (c.write_parts.ensures.all, c.write_parts.ensures.front, c.write_parts.ensures.failed,
+    c.write_parts.ensures.no_failure, c.write_parts.ensures.failed_last, c.write_parts.ensures.count)

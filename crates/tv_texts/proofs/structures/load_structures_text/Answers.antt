@@ -2,11 +2,16 @@ use Rattle.std.proofs.Common.{Err}
 use Rattle.std.proofs.lemmas.Result.{IfErr-weaker}
 use Rattle.tv_status.specs.declared.status.Role.TheVariants as role
 use Rattle.tv_texts.specs.Meaning.{MeansInitial}
-use Rattle.tv_texts.proofs.Loading.{held_refused}
+use Rattle.tv_texts.proofs.Loading.{held_refused, holds_anyway}
 use Rattle.tv_texts.proofs.structures.load_structures_text.Goals as goal
 
-pub returns-clause-cause : goal.returns-clause-cause
-returns-clause-cause g c = IfErr-weaker c.structures_text_in.result _ _
-    (λ fault refused. held_refused _ c.args.name.now c.in_ok-bytes.bytes.items role.Initial
-    (λ text k. MeansInitial c.args.program.now text (Err k)) _ _ _ fault c.in_ok-bytes.ensures.content
-    refused) c.structures_text_in.ensures.cause
+pub returns-clause-read : goal.returns-clause-read
+returns-clause-read g c =
+    let bytes = c.in_ok-bytes.ensures.read in (
+      IfErr-weaker c.structures_text_in.result _ _
+      (λ fault refused. held_refused _ c.args.name.now c.in_ok-bytes.bytes.items role.Initial
+      (λ text k. MeansInitial c.args.program.now text (Err k)) _ _ _ fault c.in_ok-bytes.ensures.content
+      refused) c.structures_text_in.ensures.cause,
+      bytes.1,
+      (bytes.2.0, bytes.2.1, λ s. holds_anyway c.structures_text_in.result _ (bytes.2.2 s)),
+    )

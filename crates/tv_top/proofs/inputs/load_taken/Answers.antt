@@ -1,7 +1,7 @@
 use Rattle.std.proofs.lemmas.Result.{IfOk-weaker, err_from_is_err_and}
 use Rattle.tv_texts.proofs.Begins.{begins_anyway}
 use Rattle.tv_texts.proofs.Loading.{holds_anyway}
-use Rattle.tv_top.proofs.Causes.{memory_fault}
+use Rattle.tv_top.proofs.Causes.{memory_fault, taken_fault}
 use Rattle.tv_top.proofs.Differenced.{taken_means, taken_runs}
 use Rattle.tv_top.proofs.inputs.load_taken.Goals as goal
 
@@ -13,16 +13,16 @@ pub returns-clause-runs : goal.returns-clause-runs
 returns-clause-runs g c = IfOk-weaker c.taken.result _ _
     (λ p is. taken_runs _ _ c.args.delta c.in_ok-read.read p c.in_ok-read.ensures.means is) c.taken.ensures.taken
 
-pub returns-clause-cause : goal.returns-clause-cause
-returns-clause-cause g c = memory_fault c.taken.result _ _ _ _ _ c.taken.ensures.cause
+pub returns-clause-read : goal.returns-clause-read
+returns-clause-read g c =
+    let read = c.in_ok-read.ensures.read in (
+      memory_fault c.taken.result _ _ _ _ _ c.taken.ensures.cause,
+      begins_anyway c.taken.result _ _ _ _ read.1,
+      (read.2.0, read.2.1, λ s. holds_anyway c.taken.result _ (read.2.2 s)),
+    )
 
-pub returns-clause-steady : goal.returns-clause-steady
-returns-clause-steady g c = λ s. holds_anyway c.taken.result _ (c.in_ok-read.ensures.steady s)
-
-pub returns-clause-begins : goal.returns-clause-begins
-returns-clause-begins g c = begins_anyway c.taken.result _ _ _ _ c.in_ok-read.ensures.begins
-
-pub returns-in_err-read-clause-begins : goal.returns-in_err-read-clause-begins
-returns-in_err-read-clause-begins g c =
+pub returns-in_err-read-clause-read : goal.returns-in_err-read-clause-read
+returns-in_err-read-clause-read g c =
     let p = err_from_is_err_and c.from_residual.result c.from_residual.ensures.1 in
-    rw (p.1, p.2) c.in_err-read.ensures.begins
+    let read = c.in_err-read.ensures.read in
+    rw (p.1, p.2) (taken_fault _ _ c.args.delta _ _ _ read.0, read.1, read.2)
