@@ -1,9 +1,7 @@
 //! The end of a call: its answer goes out, or why there is none.
 
-ghost use Rattle.std.specs.Prelude.{◌≡◌, ◌≤◌, OnOk, OnErr};
-ghost use Rattle.tv_outside.specs.Count.{Rose, FailedLast};
-ghost use Rattle.tv_outside.specs.Told.{appended, TookFront};
-ghost use Rattle.tv_status.specs.Delivery.{StopsAtFailure};
+ghost use Rattle.tv_outside.specs.Count.{Rose};
+ghost use Rattle.tv_status.specs.Delivery.{LeavesSink, Writes};
 ghost use Rattle.tv_explain.specs.Delivery.{GivesText, IsDelivered, Takes};
 ghost use Rattle.tv_explain.specs.Faults.{absent_text, ending_with, text_of, unwritten_text};
 
@@ -26,13 +24,7 @@ const USAGE: &[u8] =
 
 /// Gives the text that tells what isn't there to the sink; takes no memory.
 fn write_absent<E: Sink>(err: &mut E, what: Sought) -> Result<(), Failed>
-    ensures all { OnOk result (E.taken err.new ≡ appended (E.taken err.old) (absent_text what)) }
-    ensures failed { OnErr result (Rose (E.faults err.old) (E.faults err.new)) }
-    ensures front { OnErr result (TookFront (E.taken err.old) (E.taken err.new) (absent_text what)) }
-    ensures no_failure { OnOk result (E.failures err.new ≡ E.failures err.old) }
-    ensures failed_last { OnErr result
-        (FailedLast (E.failures err.old) (E.failures err.new) (E.since err.new)) }
-    ensures count { E.faults err.old ≤ E.faults err.new }
+    ensures told { Writes E.taken E.faults E.failures E.since (absent_text what) err.old err.new result }
 {
     match what {
         Sought::Edge => write_line(err, Teller::Explainer, b"no such edge"),
@@ -44,13 +36,7 @@ fn write_absent<E: Sink>(err: &mut E, what: Sought) -> Result<(), Failed>
 
 /// Gives the text that tells why a text isn't written to the sink; takes no memory.
 fn write_unwritten<E: Sink>(err: &mut E, why: Unwritten) -> Result<(), Failed>
-    ensures all { OnOk result (E.taken err.new ≡ appended (E.taken err.old) (unwritten_text why)) }
-    ensures failed { OnErr result (Rose (E.faults err.old) (E.faults err.new)) }
-    ensures front { OnErr result (TookFront (E.taken err.old) (E.taken err.new) (unwritten_text why)) }
-    ensures no_failure { OnOk result (E.failures err.new ≡ E.failures err.old) }
-    ensures failed_last { OnErr result
-        (FailedLast (E.failures err.old) (E.failures err.new) (E.since err.new)) }
-    ensures count { E.faults err.old ≤ E.faults err.new }
+    ensures told { Writes E.taken E.faults E.failures E.since (unwritten_text why) err.old err.new result }
 {
     match why {
         Unwritten::LongProgram => {
@@ -86,13 +72,7 @@ fn write_unwritten<E: Sink>(err: &mut E, why: Unwritten) -> Result<(), Failed>
 
 /// Gives the text of the ending to the sink; takes no memory.
 fn write_text<E: Sink>(err: &mut E, ending: Ending) -> Result<(), Failed>
-    ensures all { OnOk result (E.taken err.new ≡ appended (E.taken err.old) (text_of ending)) }
-    ensures failed { OnErr result (Rose (E.faults err.old) (E.faults err.new)) }
-    ensures front { OnErr result (TookFront (E.taken err.old) (E.taken err.new) (text_of ending)) }
-    ensures no_failure { OnOk result (E.failures err.new ≡ E.failures err.old) }
-    ensures failed_last { OnErr result
-        (FailedLast (E.failures err.old) (E.failures err.new) (E.since err.new)) }
-    ensures count { E.faults err.old ≤ E.faults err.new }
+    ensures told { Writes E.taken E.faults E.failures E.since (text_of ending) err.old err.new result }
 {
     match ending {
         Ending::As(status) => write_told(err, Teller::Explainer, USAGE, status),
@@ -106,8 +86,7 @@ fn write_text<E: Sink>(err: &mut E, ending: Ending) -> Result<(), Failed>
 fn tell<E: Sink>(err: &mut E, ending: Ending) -> Ending
     ensures tells { Takes (text_of ending) ending result (Rose (E.faults err.old) (E.faults err.new))
         (E.taken err.old) (E.taken err.new) }
-    ensures stops { StopsAtFailure (E.failures err.old) (E.failures err.new) (E.since err.new) }
-    ensures count { E.faults err.old ≤ E.faults err.new }
+    ensures left { LeavesSink E.faults E.failures E.since err.old err.new }
 {
     match write_text(err, ending) {
         Ok(()) => ending,
@@ -121,10 +100,8 @@ fn give<O: Sink, E: Sink>(answer: &Answer, out: &mut O, err: &mut E) -> Ending
         (Rose (O.faults out.old) (O.faults out.new)) (Rose
         (E.faults err.old) (E.faults err.new)) (O.taken out.old) (O.taken out.new) (E.taken err.old)
         (E.taken err.new) }
-    ensures out_stops { StopsAtFailure (O.failures out.old) (O.failures out.new) (O.since out.new) }
-    ensures err_stops { StopsAtFailure (E.failures err.old) (E.failures err.new) (E.since err.new) }
-    ensures out_count { O.faults out.old ≤ O.faults out.new }
-    ensures err_count { E.faults err.old ≤ E.faults err.new }
+    ensures out_left { LeavesSink O.faults O.failures O.since out.old out.new }
+    ensures err_left { LeavesSink E.faults E.failures E.since err.old err.new }
 {
     match write_all(out, &answer.text) {
         Ok(()) => Ending::with(answer.is_lost),
@@ -137,10 +114,8 @@ pub fn deliver<O: Sink, E: Sink>(found: Result<Answer, Fault>, out: &mut O, err:
     ensures gives { IsDelivered found result (Rose (O.faults out.old) (O.faults out.new)) (Rose
         (E.faults err.old) (E.faults err.new)) (O.taken out.old) (O.taken out.new) (E.taken err.old)
         (E.taken err.new) }
-    ensures out_stops { StopsAtFailure (O.failures out.old) (O.failures out.new) (O.since out.new) }
-    ensures err_stops { StopsAtFailure (E.failures err.old) (E.failures err.new) (E.since err.new) }
-    ensures out_count { O.faults out.old ≤ O.faults out.new }
-    ensures err_count { E.faults err.old ≤ E.faults err.new }
+    ensures out_left { LeavesSink O.faults O.failures O.since out.old out.new }
+    ensures err_left { LeavesSink E.faults E.failures E.since err.old err.new }
 {
     match found {
         Ok(answer) => give(&answer, out, err),

@@ -7,8 +7,8 @@ ghost use Rattle.tv_model.specs.Program.{program_of};
 ghost use Rattle.tv_model.specs.Valid.{IsValid};
 ghost use Rattle.tv_outside.specs.Count.{Rose};
 ghost use Rattle.tv_status.specs.declared.status.Role.TheVariants as role;
-ghost use Rattle.tv_texts.specs.Files.{IsFileCause, IsProgramFile, IsTextCause, LacksFile, UnlessNotRead};
-ghost use Rattle.tv_texts.specs.Files.{BeginsUpTo, program_begins};
+ghost use Rattle.tv_texts.specs.Files.{Handles, IsProgramFile, IsTextCause, LacksFile, ReadsFiles};
+ghost use Rattle.tv_texts.specs.Files.{program_begins};
 ghost use Rattle.tv_texts.specs.Meaning.{MeansProgram};
 ghost use Rattle.tv_texts.specs.declared.fault.TextFault.TheVariants.{Memory};
 ghost use Rattle.tv_explain.specs.Call.{UnlessReadFault};
@@ -70,16 +70,9 @@ fn drawn_in(alloc: Global, gathered: &Gathered) -> Result<Drawn, TextFault>
 pub fn load_drawn<F: Files>(alloc: Global, files: &mut F, name: &str) -> Result<Drawn, TextFault>
     ensures means { IfOk result (IsDrawnFile (F.holds files.old) false name.now) }
     ensures valid { IfOk result (λ drawn. IsValid (program_of drawn.program)) }
-    ensures cause { IfErr result (IsFileCause role.Program
-        (λ kind. IsProgramFile (F.holds files.old) name.now (Err kind))
-        (LacksFile (F.holds files.old) name.now) (Rose (F.faults files.old) (F.faults files.new))
-        (F.steady files.old)) }
-    ensures holds { F.holds files.new ≡ F.holds files.old }
-    ensures begins { BeginsUpTo result (F.holds files.old) (λ held. program_begins held name.now)
-        (F.begins files.old) (F.begins files.new) }
-    ensures count { F.faults files.old ≤ F.faults files.new }
-    ensures steady { F.steady files.old → UnlessNotRead result (F.steady files.new
-        × (F.faults files.new ≡ F.faults files.old)) }
+    ensures read { ReadsFiles F.holds F.faults F.begins F.steady role.Program
+        (LacksFile (F.holds files.old) name.now) (λ held. program_begins held name.now)
+        (λ kind. IsProgramFile (F.holds files.old) name.now (Err kind)) files.old files.new result }
 {
     let gathered = gather(alloc, files, name)?;
     drawn_in(alloc, &gathered)
@@ -111,16 +104,9 @@ pub fn load_taken<F: Files>(
 ) -> Result<Drawn, TextFault>
     ensures means { IfOk result (IsDrawnFile (F.holds files.old) delta name.now) }
     ensures valid { IfOk result (λ drawn. IsValid (program_of drawn.program)) }
-    ensures cause { IfErr result (IsFileCause role.Program
-        (λ kind. IsProgramFile (F.holds files.old) name.now (Err kind))
-        (LacksFile (F.holds files.old) name.now) (Rose (F.faults files.old) (F.faults files.new))
-        (F.steady files.old)) }
-    ensures holds { F.holds files.new ≡ F.holds files.old }
-    ensures begins { BeginsUpTo result (F.holds files.old) (λ held. program_begins held name.now)
-        (F.begins files.old) (F.begins files.new) }
-    ensures count { F.faults files.old ≤ F.faults files.new }
-    ensures steady { F.steady files.old → UnlessNotRead result (F.steady files.new
-        × (F.faults files.new ≡ F.faults files.old)) }
+    ensures read { ReadsFiles F.holds F.faults F.begins F.steady role.Program
+        (LacksFile (F.holds files.old) name.now) (λ held. program_begins held name.now)
+        (λ kind. IsProgramFile (F.holds files.old) name.now (Err kind)) files.old files.new result }
 {
     let read = load_drawn(alloc, files, name)?;
     taken(alloc, read, delta)
@@ -132,16 +118,13 @@ pub fn load_inputs<F: Files>(alloc: Global, files: &mut F, of: &Analyzed) -> Res
     ensures ready { IfOk result AreReady }
     ensures cause { IfErr result (IsInputsCause (F.holds files.old) (analyzed_of of.now)
         (Rose (F.faults files.old) (F.faults files.new)) (F.steady files.old)) }
-    ensures holds { F.holds files.new ≡ F.holds files.old }
     ensures begins { OnOk result (BeginsBy (F.holds files.old)
         (λ held. program_begins held (analyzed_of of.now).program + 1) (F.begins files.old)
         (F.begins files.new)) }
     ensures most { BeginsAtMost (F.holds files.old)
         (λ held. program_begins held (analyzed_of of.now).program + 1) (F.begins files.old)
         (F.begins files.new) }
-    ensures count { F.faults files.old ≤ F.faults files.new }
-    ensures steady { F.steady files.old → UnlessReadFault result (F.steady files.new
-        × (F.faults files.new ≡ F.faults files.old)) }
+    ensures handled { Handles F.holds F.faults F.steady (UnlessReadFault result) files.old files.new }
 {
     let drawn = load_taken(alloc, files, &of.program, of.delta)?;
     let initial = load_initial(alloc, files, &of.initial, &drawn.program)?;

@@ -9,7 +9,7 @@ ghost use Rattle.tv_explain.specs.Due.{EndsAsOwed, MayStand};
 ghost use Rattle.tv_explain.specs.declared.fault.Ending.TheVariants.{As};
 ghost use Rattle.tv_explain_words.specs.Words.{SpellsNothing};
 ghost use Rattle.tv_status.specs.declared.status.Status.TheVariants.{Memory};
-ghost use Rattle.tv_status.specs.Delivery.{StopsAtFailure};
+ghost use Rattle.tv_status.specs.Delivery.{LeavesSink};
 ghost use Rattle.tv_words.specs.Words.{words_of};
 
 mod answers;
@@ -50,9 +50,9 @@ pub fn explain<F: Files, O: Sink, E: Sink>(
         (Rose (O.faults out.old) (O.faults out.new)) (Rose (E.faults err.old) (E.faults err.new))
         (O.taken out.old) (O.taken out.new) (E.taken err.old) (E.taken err.new) result }
 
-    // A sink that has failed is given nothing more.
-    ensures out_stops { StopsAtFailure (O.failures out.old) (O.failures out.new) (O.since out.new) }
-    ensures err_stops { StopsAtFailure (E.failures err.old) (E.failures err.new) (E.since err.new) }
+    // A sink that has failed is given nothing more, and no count of its faults falls.
+    ensures out_left { LeavesSink O.faults O.failures O.since out.old out.new }
+    ensures err_left { LeavesSink E.faults E.failures E.since err.old err.new }
 
     // What was read: nothing without a command; where an answer is given, as many files were begun as the
     // command asks for, and never more; and steady files that hold what is asked for don't fail, and stay
@@ -69,8 +69,6 @@ pub fn explain<F: Files, O: Sink, E: Sink>(
     // No call changes what a name holds, and no count of faults falls.
     ensures holds { F.holds files.new ≡ F.holds files.old }
     ensures files_count { F.faults files.old ≤ F.faults files.new }
-    ensures out_count { O.faults out.old ≤ O.faults out.new }
-    ensures err_count { E.faults err.old ≤ E.faults err.new }
 
     // Each ending comes wherever it is called for, unless a call outside failed or memory ran out; where no
     // count of faults rose, unless memory ran out. Where over N structures are reached, `message` may have

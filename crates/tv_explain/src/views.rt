@@ -1,11 +1,12 @@
 //! What is told of the actions of a program, and of structures by themselves.
 
-ghost use Rattle.std.specs.Prelude.{◌≡◌, ◌≤◌, IfErr, IfOk, OnOk};
+ghost use Rattle.std.specs.Prelude.{IfErr, IfOk, OnOk};
 ghost use Rattle.tv_explain.specs.Answers.{IsText};
 ghost use Rattle.tv_explain.specs.Begins.{BeginsFor, FewBegins};
 ghost use Rattle.tv_explain.specs.Call.{IsCommandCause, UnlessReadFault};
 ghost use Rattle.tv_explain_words.specs.Words.{Completes, TellsPlan};
 ghost use Rattle.tv_outside.specs.Count.{Rose};
+ghost use Rattle.tv_texts.specs.Files.{Handles};
 
 use crate::fault::Fault;
 use crate::inputs::load_taken;
@@ -30,14 +31,11 @@ pub fn plan<F: Files>(
         (λ text. IsText (F.holds files.old) (TellsPlan program.now mode delta) text.items) }
     ensures cause { IfErr result (IsCommandCause (F.holds files.old) (TellsPlan program.now mode delta)
         (Rose (F.faults files.old) (F.faults files.new)) (F.steady files.old)) }
-    ensures holds { F.holds files.new ≡ F.holds files.old }
     ensures begins { OnOk result (BeginsFor (F.holds files.old) (F.begins files.old) (F.begins files.new)
         (TellsPlan program.now mode delta)) }
     ensures most { FewBegins (F.holds files.old) (F.begins files.old) (F.begins files.new)
         (TellsPlan program.now mode delta) }
-    ensures count { F.faults files.old ≤ F.faults files.new }
-    ensures steady { F.steady files.old → UnlessReadFault result (F.steady files.new
-        × (F.faults files.new ≡ F.faults files.old)) }
+    ensures handled { Handles F.holds F.faults F.steady (UnlessReadFault result) files.old files.new }
 {
     let drawn = load_taken(alloc, files, program, delta)?;
     Ok(plan_text(alloc, &drawn.program, mode, &drawn.heads)?)
@@ -55,14 +53,11 @@ pub fn complete<F: Files>(
         (λ text. IsText (F.holds files.old) (Completes program.now structures.now) text.items) }
     ensures cause { IfErr result (IsCommandCause (F.holds files.old) (Completes program.now structures.now)
         (Rose (F.faults files.old) (F.faults files.new)) (F.steady files.old)) }
-    ensures holds { F.holds files.new ≡ F.holds files.old }
     ensures begins { OnOk result (BeginsFor (F.holds files.old) (F.begins files.old) (F.begins files.new)
         (Completes program.now structures.now)) }
     ensures most { FewBegins (F.holds files.old) (F.begins files.old) (F.begins files.new)
         (Completes program.now structures.now) }
-    ensures count { F.faults files.old ≤ F.faults files.new }
-    ensures steady { F.steady files.old → UnlessReadFault result (F.steady files.new
-        × (F.faults files.new ≡ F.faults files.old)) }
+    ensures handled { Handles F.holds F.faults F.steady (UnlessReadFault result) files.old files.new }
 {
     let program = load_program(alloc, files, program)?;
     let read = load_structures_text(alloc, files, structures, &program)?;

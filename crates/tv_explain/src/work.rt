@@ -1,7 +1,8 @@
 //! The work of a command, up to the answer that it gives.
 
-ghost use Rattle.std.specs.Prelude.{◌≡◌, ◌≤◌, IfOk, IfErr, OnOk};
+ghost use Rattle.std.specs.Prelude.{◌≡◌, IfOk, IfErr, OnOk};
 ghost use Rattle.tv_outside.specs.Count.{Rose};
+ghost use Rattle.tv_texts.specs.Files.{Handles};
 ghost use Rattle.tv_explain.specs.Call.{Commands, IsAnswerTo, IsCause, IsCommandCause, UnlessReadFault};
 ghost use Rattle.tv_explain.specs.Begins.{FewBegins, BeginsFor, BeginsNoMore};
 ghost use Rattle.tv_explain.specs.Answers.{IsAnswer, IsText};
@@ -35,14 +36,11 @@ fn show<F: Files>(
         (λ text. IsText (F.holds files.old) (Shows program.now report.now) text.items) }
     ensures cause { IfErr result (IsCommandCause (F.holds files.old) (Shows program.now report.now)
         (Rose (F.faults files.old) (F.faults files.new)) (F.steady files.old)) }
-    ensures holds { F.holds files.new ≡ F.holds files.old }
     ensures begins { OnOk result (BeginsFor (F.holds files.old) (F.begins files.old) (F.begins files.new)
         (Shows program.now report.now)) }
     ensures most { FewBegins (F.holds files.old) (F.begins files.old) (F.begins files.new)
         (Shows program.now report.now) }
-    ensures count { F.faults files.old ≤ F.faults files.new }
-    ensures steady { F.steady files.old → UnlessReadFault result (F.steady files.new
-        × (F.faults files.new ≡ F.faults files.old)) }
+    ensures handled { Handles F.holds F.faults F.steady (UnlessReadFault result) files.old files.new }
 {
     let program = load_program(alloc, files, program)?;
     let report = load_report(alloc, files, report, &program)?;
@@ -56,14 +54,11 @@ fn edges<F: Files>(alloc: Global, files: &mut F, program: &str) -> Result<Vec<u8
         (λ text. IsText (F.holds files.old) (ListsEdges program.now) text.items) }
     ensures cause { IfErr result (IsCommandCause (F.holds files.old) (ListsEdges program.now)
         (Rose (F.faults files.old) (F.faults files.new)) (F.steady files.old)) }
-    ensures holds { F.holds files.new ≡ F.holds files.old }
     ensures begins { OnOk result (BeginsFor (F.holds files.old) (F.begins files.old) (F.begins files.new)
         (ListsEdges program.now)) }
     ensures most { FewBegins (F.holds files.old) (F.begins files.old) (F.begins files.new)
         (ListsEdges program.now) }
-    ensures count { F.faults files.old ≤ F.faults files.new }
-    ensures steady { F.steady files.old → UnlessReadFault result (F.steady files.new
-        × (F.faults files.new ≡ F.faults files.old)) }
+    ensures handled { Handles F.holds F.faults F.steady (UnlessReadFault result) files.old files.new }
 {
     let drawn = load_drawn(alloc, files, program)?;
     Ok(edges_text(alloc, &drawn.program, &drawn.heads)?)
@@ -82,14 +77,11 @@ fn ask<F: Files>(
     ensures cause { IfErr result (IsCommandCause (F.holds files.old)
         (command_of (analyzed_of of.now) question.now)
         (Rose (F.faults files.old) (F.faults files.new)) (F.steady files.old)) }
-    ensures holds { F.holds files.new ≡ F.holds files.old }
     ensures begins { OnOk result (BeginsFor (F.holds files.old) (F.begins files.old) (F.begins files.new)
         (command_of (analyzed_of of.now) question.now)) }
     ensures most { FewBegins (F.holds files.old) (F.begins files.old) (F.begins files.new)
         (command_of (analyzed_of of.now) question.now) }
-    ensures count { F.faults files.old ≤ F.faults files.new }
-    ensures steady { F.steady files.old → UnlessReadFault result (F.steady files.new
-        × (F.faults files.new ≡ F.faults files.old)) }
+    ensures handled { Handles F.holds F.faults F.steady (UnlessReadFault result) files.old files.new }
 {
     let inputs = load_inputs(alloc, files, of)?;
     answer(alloc, &inputs, of, question)
@@ -102,14 +94,11 @@ fn compiled<F: Files>(alloc: Global, files: &mut F, source: &str) -> Result<Vec<
         (λ text. IsText (F.holds files.old) (Compiles source.now) text.items) }
     ensures cause { IfErr result (IsCommandCause (F.holds files.old) (Compiles source.now)
         (Rose (F.faults files.old) (F.faults files.new)) (F.steady files.old)) }
-    ensures holds { F.holds files.new ≡ F.holds files.old }
     ensures begins { OnOk result (BeginsFor (F.holds files.old) (F.begins files.old) (F.begins files.new)
         (Compiles source.now)) }
     ensures most { FewBegins (F.holds files.old) (F.begins files.old) (F.begins files.new)
         (Compiles source.now) }
-    ensures count { F.faults files.old ≤ F.faults files.new }
-    ensures steady { F.steady files.old → UnlessReadFault result (F.steady files.new
-        × (F.faults files.new ≡ F.faults files.old)) }
+    ensures handled { Handles F.holds F.faults F.steady (UnlessReadFault result) files.old files.new }
 {
     compiled_texts_are_programs();
     let read = load_source_text(alloc, files, source)?;
@@ -121,14 +110,11 @@ fn execute<F: Files>(alloc: Global, files: &mut F, command: &Command) -> Result<
     ensures found { IfOk result (IsAnswer (F.holds files.old) (form_of command.now)) }
     ensures cause { IfErr result (IsCommandCause (F.holds files.old) (form_of command.now)
         (Rose (F.faults files.old) (F.faults files.new)) (F.steady files.old)) }
-    ensures holds { F.holds files.new ≡ F.holds files.old }
     ensures begins { OnOk result (BeginsFor (F.holds files.old) (F.begins files.old) (F.begins files.new)
         (form_of command.now)) }
     ensures most { FewBegins (F.holds files.old) (F.begins files.old) (F.begins files.new)
         (form_of command.now) }
-    ensures count { F.faults files.old ≤ F.faults files.new }
-    ensures steady { F.steady files.old → UnlessReadFault result (F.steady files.new
-        × (F.faults files.new ≡ F.faults files.old)) }
+    ensures handled { Handles F.holds F.faults F.steady (UnlessReadFault result) files.old files.new }
 {
     match command {
         Command::Show { program, report } => plain(show(alloc, files, program, report)),
@@ -164,14 +150,11 @@ pub fn perform<F: Files>(alloc: Global, words: &[String], files: &mut F) -> Resu
     ensures cause { IfErr result (IsCause (words_of words.now) (F.holds files.old)
         (Rose (F.faults files.old) (F.faults files.new)) (F.steady files.old)) }
     ensures unread { SpellsNothing (words_of words.now) → files.new ≡ files.old }
-    ensures holds { F.holds files.new ≡ F.holds files.old }
     ensures begins { OnOk result (Commands (words_of words.now)
         (BeginsFor (F.holds files.old) (F.begins files.old) (F.begins files.new))) }
     ensures most { BeginsNoMore (words_of words.now) (F.holds files.old) (F.begins files.old)
         (F.begins files.new) }
-    ensures count { F.faults files.old ≤ F.faults files.new }
-    ensures steady { F.steady files.old → UnlessReadFault result (F.steady files.new
-        × (F.faults files.new ≡ F.faults files.old)) }
+    ensures handled { Handles F.holds F.faults F.steady (UnlessReadFault result) files.old files.new }
 {
     one_command();
     let Some(command) = read_words(alloc, words)? else {

@@ -22,6 +22,6 @@ Writes taken faults failures since text old new result =
     × (faults old ≤ faults new)
 
 -- how a call leaves a sink: it has stopped at a failure, and no count of faults falls
-abbrev pub Leaves : {S : Type 0} → (faults failures since : S → ℕ) → (old new : S) → Type 0
-Leaves faults failures since old new =
+abbrev pub LeavesSink : {S : Type 0} → (faults failures since : S → ℕ) → (old new : S) → Type 0
+LeavesSink faults failures since old new =
     StopsAtFailure (failures old) (failures new) (since new) × (faults old ≤ faults new)

@@ -118,3 +118,10 @@ pub also_handles : {F : Type 0} (holds : F → Option Held) (faults : F → ℕ)
     → Handles holds faults steady (λ P. P) old new
 also_handles holds faults steady old mid new first next =
     then_handles holds faults steady (λ P. P) (λ P. P) old mid new (λ P Q f h. f h) first next
+
+-- and one, whose answer is told otherwise
+pub told_handles : {F : Type 0} (holds : F → Option Held) (faults : F → ℕ) (steady : F → Type 0)
+    (Unless Then : Type 0 → Type 0) (old new : F) → ((P : Type 0) → Unless P → Then P)
+    → Handles holds faults steady Unless old new → Handles holds faults steady Then old new
+told_handles holds faults steady Unless Then old new map left =
+    (left.0, left.1, λ s. map (steady new × (faults new ≡ faults old)) (left.2 s))

@@ -4,7 +4,7 @@
 ghost use Rattle.std.specs.Prelude.{◌≡◌, ◌⊎◌, ◌≤◌, ◌++◌, ℕ, List, Some};
 ghost use Rattle.tv_outside.specs.Count.{Rose};
 ghost use Rattle.tv_outside.specs.Told.{Held};
-ghost use Rattle.tv_status.specs.Delivery.{Leaves};
+ghost use Rattle.tv_status.specs.Delivery.{LeavesSink};
 ghost use Rattle.tv_top.specs.Begins.{BeginsDuly, BeginsWithin};
 ghost use Rattle.tv_top.specs.Call.{IsAnswerTo, IsCause, EndsFor, EndsDuly, IsExcuse, HoldsOperands};
 ghost use Rattle.tv_top.specs.Call.{UnlessFault};
@@ -62,8 +62,8 @@ pub fn tvla<F: Files, O: Sink, E: Sink>(
         (E.taken err.old) (E.taken err.new) }
 
     // A sink that has failed is given nothing more, and no count of its faults falls.
-    ensures out_left { Leaves O.faults O.failures O.since out.old out.new }
-    ensures err_left { Leaves E.faults E.failures E.since err.old err.new }
+    ensures out_left { LeavesSink O.faults O.failures O.since out.old out.new }
+    ensures err_left { LeavesSink E.faults E.failures E.since err.old err.new }
 
     // What was read: nothing without a command; where an answer is given, as many files were begun as the
     // command asks for, where one is refused those up to it, and never more; and steady files that hold what

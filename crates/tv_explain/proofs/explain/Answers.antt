@@ -14,11 +14,12 @@ returns-clause-done g c = record {
 pub returns-clause-held : goal.returns-clause-held
 returns-clause-held g c = λ steady holds.
     no_fault _ _ _ _ _ c.perform-found.result (none_missing _ c.one_command.ensures _ holds) steady
-    c.perform-found.ensures.cause (c.perform-found.ensures.steady steady)
+    c.perform-found.ensures.cause (c.perform-found.ensures.handled.2 steady)
 
 pub returns-clause-stays : goal.returns-clause-stays
 returns-clause-stays g c = λ steady.
-    stays_steady c.perform-found.result _ _ _ _ _ _ _ _ _ c.deliver.ensures.gives (c.perform-found.ensures.steady steady)
+    stays_steady c.perform-found.result _ _ _ _ _ _ _ _ _ c.deliver.ensures.gives
+    (c.perform-found.ensures.handled.2 steady)
 
 pub returns-clause-begins : goal.returns-clause-begins
 returns-clause-begins g c =

@@ -10,16 +10,15 @@ returns-clause-means g c = IfOk-weaker c.taken.result _ _
     (λ drawn is. taken_file _ c.args.delta c.args.name.now c.in_ok-read.read drawn c.in_ok-read.ensures.means is)
     c.taken.ensures.taken
 
-pub returns-clause-cause : goal.returns-clause-cause
-returns-clause-cause g c = memory_fault c.taken.result _ _ _ _ _ c.taken.ensures.cause
+pub returns-clause-read : goal.returns-clause-read
+returns-clause-read g c =
+    let read = c.in_ok-read.ensures.read in (
+      memory_fault c.taken.result _ _ _ _ _ c.taken.ensures.cause,
+      begins_anyway c.taken.result _ _ _ _ read.1,
+      (read.2.0, read.2.1, λ s. holds_anyway c.taken.result _ (read.2.2 s)),
+    )
 
-pub returns-clause-steady : goal.returns-clause-steady
-returns-clause-steady g c = λ s. holds_anyway c.taken.result _ (c.in_ok-read.ensures.steady s)
-
-pub returns-clause-begins : goal.returns-clause-begins
-returns-clause-begins g c = begins_anyway c.taken.result _ _ _ _ c.in_ok-read.ensures.begins
-
-pub returns-in_err-read-clause-begins : goal.returns-in_err-read-clause-begins
-returns-in_err-read-clause-begins g c =
+pub returns-in_err-read-clause-read : goal.returns-in_err-read-clause-read
+returns-in_err-read-clause-read g c =
     let p = err_from_is_err_and c.from_residual.result c.from_residual.ensures.1 in
-    rw (p.1, p.2) c.in_err-read.ensures.begins
+    rw (p.1, p.2) c.in_err-read.ensures.read

@@ -1,9 +1,9 @@
-use Rattle.std.proofs.Common.{◌≡◌, ◌+◌, List, refl}
+use Rattle.std.proofs.Common.{◌+◌, List, refl}
 use Rattle.std.proofs.lemmas.Result.{err_from_is_err_and}
 use Rattle.tv_model.specs.declared.program.Program.{Program}
 use Rattle.tv_structure_form.specs.StructureForm.{StructureForm}
 use Rattle.tv_lex.proofs.Begins.{one_more}
-use Rattle.tv_texts.proofs.Loading.{also_handles, rose_later, then_handles}
+use Rattle.tv_texts.proofs.Loading.{also_handles, rose_later, then_handles, told_handles}
 use Rattle.tv_top.proofs.Begins.{initial_begun, program_begun}
 use Rattle.tv_top.specs.Begins.{origin_begins}
 use Rattle.tv_top.proofs.Causes.{unless_not_read, program_named, initial_named}
@@ -58,18 +58,18 @@ returns-in_err-initial-clause-begun g c =
 pub returns-in_err-program-clause-handled : goal.returns-in_err-program-clause-handled
 returns-in_err-program-clause-handled g c =
     let p = err_from_is_err_and c.from_residual.result c.from_residual.ensures.1 in
-    let left = c.in_err-program.ensures.read.2 in
     let f = g.F.Files in
-    let new = c.load_origin.new.files in
-    let same = f.steady new × (f.faults new ≡ f.faults c.args.files.now) in
-    rw (p.1, p.2) (left.0, left.1, λ s. unless_not_read Program Inputs c.in_err-program.field-0.0 same same (λ h. h) (left.2 s))
+    let e = c.in_err-program.field-0.0 in
+    rw (p.1, p.2) (told_handles f.holds f.faults f.steady _ _ c.args.files.now c.load_origin.new.files
+    (λ P. unless_not_read Program Inputs e P P (λ h. h)) c.in_err-program.ensures.read.2)
 
 pub returns-in_err-initial-clause-handled : goal.returns-in_err-initial-clause-handled
 returns-in_err-initial-clause-handled g c =
     let p = err_from_is_err_and c.from_residual-in_err-initial.result c.from_residual-in_err-initial.ensures.1 in
     let f = g.F.Files in
     let e = c.in_err-initial.field-0.0 in
-    rw (p.1, p.2) (then_handles f.holds f.faults f.steady _ _ c.args.files.now c.load_origin.new.files c.load_initial.new.files
+    rw (p.1, p.2) (then_handles f.holds f.faults f.steady _ _
+    c.args.files.now c.load_origin.new.files c.load_initial.new.files
     (unless_not_read (List StructureForm) Inputs e) c.in_ok-program.ensures.read.2 c.in_err-initial.ensures.read.2)
 
 pub returns-clause-handled : goal.returns-clause-handled

@@ -82,7 +82,8 @@ returns-in_err-report-clause-handled g c =
     let p = err_from_is_err_and c.from_residual-in_err-report.result c.from_residual-in_err-report.ensures.1 in
     let f = g.F.Files in
     let e = c.in_err-report.field-0.0 in
-    rw (p.1, p.2) (then_handles f.holds f.faults f.steady _ _ c.args.files.now c.load_inputs.new.files c.load_report.new.files
+    rw (p.1, p.2) (then_handles f.holds f.faults f.steady _ _
+    c.args.files.now c.load_inputs.new.files c.load_report.new.files
     (unless_not_read Analysis Answer e) c.in_ok-inputs.ensures.handled c.in_err-report.ensures.read.2)
 
 pub returns-clause-handled : goal.returns-clause-handled

@@ -130,7 +130,8 @@ returns-in_err-start-clause-handled g c =
     let p = err_from_is_err_and c.from_residual-in_err-start.result c.from_residual-in_err-start.ensures.1 in
     let f = g.F.Files in
     let e = c.in_err-start.field-0.0 in
-    rw (p.1, p.2) (then_handles f.holds f.faults f.steady _ _ c.args.files.now c.load_inputs.new.files c.load_start.new.files
+    rw (p.1, p.2) (then_handles f.holds f.faults f.steady _ _
+    c.args.files.now c.load_inputs.new.files c.load_start.new.files
     (unless_not_read StructureForm Answer e) c.in_ok-inputs.ensures.handled c.in_err-start.ensures.read.2)
 
 pub returns-in_err-trace-clause-handled : goal.returns-in_err-trace-clause-handled
@@ -140,7 +141,8 @@ returns-in_err-trace-clause-handled g c =
     let e = c.in_err-trace.field-0.0 in
     let two = also_handles f.holds f.faults f.steady c.args.files.now c.load_inputs.new.files c.load_start.new.files
     c.in_ok-inputs.ensures.handled c.in_ok-start.ensures.read.2 in
-    rw (p.1, p.2) (then_handles f.holds f.faults f.steady _ _ c.args.files.now c.load_start.new.files c.load_trace.new.files
+    rw (p.1, p.2) (then_handles f.holds f.faults f.steady _ _
+    c.args.files.now c.load_start.new.files c.load_trace.new.files
     (unless_not_read Trace Answer e) two c.in_err-trace.ensures.read.2)
 
 pub returns-in_err-reported-clause-handled : goal.returns-in_err-reported-clause-handled
@@ -152,7 +154,8 @@ returns-in_err-reported-clause-handled g c =
     c.in_ok-inputs.ensures.handled c.in_ok-start.ensures.read.2 in
     let three = also_handles f.holds f.faults f.steady c.args.files.now c.load_start.new.files c.load_trace.new.files
     two c.in_ok-trace.ensures.read.2 in
-    rw (p.1, p.2) (then_handles f.holds f.faults f.steady _ _ c.args.files.now c.load_trace.new.files c.load_report.new.files
+    rw (p.1, p.2) (then_handles f.holds f.faults f.steady _ _
+    c.args.files.now c.load_trace.new.files c.load_report.new.files
     (unless_not_read Analysis Answer e) three c.in_err-reported.ensures.read.2)
 
 pub returns-clause-handled : goal.returns-clause-handled
