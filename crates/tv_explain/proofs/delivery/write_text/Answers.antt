@@ -1,6 +1,6 @@
 use Rattle.tv_explain.specs.Faults.{usage_text}
 use Rattle.tv_explain.proofs.delivery.write_text.Goals as goal
 
-pub returns-in-As-clause-told : goal.returns-in-As-clause-told
+pub returns-in-As : goal.returns-in-As
 unfolding usage_text
-returns-in-As-clause-told g c = rw c.in-As.is c.write_told.ensures.told
+returns-in-As g c = rw c.in-As.is c.write_told.ensures.told

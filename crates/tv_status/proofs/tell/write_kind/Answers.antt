@@ -3,9 +3,9 @@ use Rattle.std.specs.Prelude.{codes}
 use Rattle.tv_status.specs.Status.{file_fault_text}
 use Rattle.tv_status.proofs.tell.write_kind.Goals as goal
 
-pub returns-clause-told : goal.returns-clause-told
+pub returns : goal.returns
 unfolding file_fault_text
-returns-clause-told g c =
+returns g c =
     let text : file_fault_text c.args.teller c.args.role c.args.kind None
     ≡ c.name.result.now ++ (codes ": " ++ (c.name-2.result.now ++ (codes ": "
     ++ (c.name-3.result.now ++ (c.hint.result.now ++ 10 ∷ [])))))

@@ -11,9 +11,9 @@ parts : (teller role kind line column hint : List ℕ)
     ++ (column ++ (hint ++ 10 ∷ [])))))))))
 parts teller role kind line column hint = search (rules, append_assoc)
 
-pub returns-clause-told : goal.returns-clause-told
+pub returns : goal.returns
 unfolding file_fault_text
-returns-clause-told g c =
+returns g c =
     let teller : c.name.result.now ≡ teller_name c.args.teller = c.name.ensures in
     let role : c.name-2.result.now ≡ role_name c.args.role = c.name-2.ensures in
     let kind : c.name-3.result.now ≡ kind_name c.args.kind = c.name-3.ensures in

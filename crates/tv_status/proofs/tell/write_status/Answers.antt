@@ -1,6 +1,6 @@
 use Rattle.tv_status.specs.Status.{usage_text}
 use Rattle.tv_status.proofs.tell.write_status.Goals as goal
 
-pub returns-clause-told : goal.returns-clause-told
+pub returns : goal.returns
 unfolding usage_text
-returns-clause-told g c = c.write_told.ensures.told
+returns g c = c.write_told.ensures.told

@@ -3,9 +3,9 @@ use Rattle.std.specs.Prelude.{codes, decimal}
 use Rattle.tv_status.specs.Status.{too_many_text}
 use Rattle.tv_status.proofs.tell.write_too_many.Goals as goal
 
-pub returns-clause-told : goal.returns-clause-told
+pub returns : goal.returns
 unfolding too_many_text
-returns-clause-told g c =
+returns g c =
     let digits : c.as_bytes.result.now ≡ decimal c.args.max = cc in
     let text : too_many_text c.args.teller c.args.max
     ≡ c.name.result.now ++ (codes ": more than " ++ (c.as_bytes.result.now ++ (codes " structures" ++ 10 ∷ [])))
