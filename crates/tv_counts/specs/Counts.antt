@@ -5,10 +5,16 @@ use Rattle.tv_file_lines.specs.Numbered.{numbered}
 use Rattle.tv_listing.specs.ListingForm.{at_node}
 use Rattle.tv_listing.specs.declared.analysis.MessageLine.{MessageLine}
 use Rattle.tv_model.specs.declared.program.Mode.{Mode}
-use Rattle.tv_model.specs.Program.{ProgramForm}
+use Rattle.tv_model.specs.Program.{ProgramForm, program_of}
+use Rattle.tv_model.specs.Valid.{IsValid}
+use Rattle.tv_model.specs.declared.program.Program.{Program}
 use Rattle.tv_structure_form.specs.StructureForm.{StructureForm}
 use Rattle.tv_work.specs.Analyzed.{IsAnalysis}
 use Rattle.tv_work.specs.Stopped.{ListsPast}
+
+-- a listing by the nodes of a valid program
+abbrev pub IsNodeListing : Program → List (List StructureForm) → Type 0
+IsNodeListing program listing = IsValid (program_of program) × (length listing ≡ length program.nodes)
 
 -- the nodes of these names, of which the first has this number, each with how many structures it has
 abbrev pub node_counts : (listing : List (List StructureForm)) → (number : ℕ) → List (List ℕ) → List ℕ

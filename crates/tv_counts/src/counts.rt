@@ -1,12 +1,13 @@
 //! Counts, node by node.
 
-ghost use Rattle.std.specs.Prelude.{◌≡◌, ◌++◌, All, IfErr, IfOk, OnOk, length};
+ghost use Rattle.std.specs.Prelude.{◌≡◌, ◌++◌, All, IfErr, IfOk, OnOk};
 ghost use Rattle.tv_model.specs.Program.{program_of};
 ghost use Rattle.tv_model.specs.Valid.{IsValid};
 ghost use Rattle.tv_structure_form.specs.StructureForm.{IsOver};
 ghost use Rattle.tv_work.specs.Reach.{IsReached};
 ghost use Rattle.tv_work.specs.Stopped.{IsStepsCause};
-ghost use Rattle.tv_counts.specs.Counts.{IsCountsText, finished_text, node_counts, stopped_text};
+ghost use Rattle.tv_counts.specs.Counts.{IsCountsText, IsNodeListing, finished_text, node_counts};
+ghost use Rattle.tv_counts.specs.Counts.{stopped_text};
 
 use std::alloc::{AllocError, Global};
 use tv_explain_text::append_node_line;
@@ -18,8 +19,7 @@ use tv_work::{Outcome, WorkError, analyze_or_stop};
 
 /// Appends the line of each node, by number.
 fn append_counts(out: &mut Vec<u8>, program: &Program, listing: &Listing) -> Result<(), AllocError>
-    requires valid { IsValid (program_of program.now) }
-    requires nodes { length listing.now ≡ length program.now.nodes }
+    requires listing { IsNodeListing program.now listing.now }
     ensures { OnOk result (out.new.items ≡ out.old.items ++ node_counts listing.now 0 program.now.nodes) }
 {
     let names = program.nodes.as_slice();
@@ -32,8 +32,7 @@ fn append_counts(out: &mut Vec<u8>, program: &Program, listing: &Listing) -> Res
 
 /// That the analysis finished, and its nodes.
 fn finished_text(alloc: Global, program: &Program, listing: &Listing) -> Result<Vec<u8>, AllocError>
-    requires valid { IsValid (program_of program.now) }
-    requires nodes { length listing.now ≡ length program.now.nodes }
+    requires listing { IsNodeListing program.now listing.now }
     ensures { IfOk result (λ text. text.items ≡ finished_text program.now.nodes listing.now) }
 {
     let mut out = Vec::new(alloc);
@@ -49,8 +48,7 @@ fn stopped_text(
     max: u64,
     listing: &Listing,
 ) -> Result<Vec<u8>, AllocError>
-    requires valid { IsValid (program_of program.now) }
-    requires nodes { length listing.now ≡ length program.now.nodes }
+    requires listing { IsNodeListing program.now listing.now }
     ensures { IfOk result (λ text. text.items ≡ stopped_text program.now.nodes max listing.now) }
 {
     let mut out = Vec::new(alloc);

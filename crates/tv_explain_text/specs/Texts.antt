@@ -1,5 +1,5 @@
 -- The texts that explain.
-use Rattle.std.specs.Prelude.{ℕ, ◌+◌, List, [], ◌∷◌, ◌++◌, Option, None, Some, length, slice_get, codes}
+use Rattle.std.specs.Prelude.{ℕ, ◌<◌, ◌≤◌, ◌+◌, All, List, [], ◌∷◌, ◌++◌, Option, None, Some, length, slice_get, codes}
 use Rattle.std.specs.Prelude.{decimal}
 use Rattle.tv_file_lines.specs.Numbered.{numbered}
 use Rattle.tv_listing.specs.ListingForm.{at_node}
@@ -8,9 +8,18 @@ use Rattle.tv_model.specs.declared.program.Edge.{Edge}
 use Rattle.tv_model.specs.declared.program.Program.{Program}
 use Rattle.tv_model.specs.declared.program.Vocab.{Vocab}
 use Rattle.tv_show.specs.Line.{line_of}
-use Rattle.tv_structure_form.specs.StructureForm.{StructureForm}
+use Rattle.tv_structure_form.specs.StructureForm.{StructureForm, IsOver}
 
 -- ---- structures
+
+-- it has the vocabulary, whose predicates have numbers
+abbrev pub CanShow : Vocab → StructureForm → Type 0
+CanShow vocab s = IsOver vocab s × (length vocab.preds ≤ 512)
+
+-- and so have those that are listed at the node
+abbrev pub CanShowNode : Vocab → List (List StructureForm) → (node : ℕ) → Type 0
+CanShowNode vocab listing node = (node < length listing) × All (IsOver vocab) (at_node listing node)
+    × (length vocab.preds ≤ 512)
 
 -- a structure in one line, behind its place
 abbrev pub structure_line : Vocab → (place : ℕ) → StructureForm → List ℕ

@@ -1,12 +1,12 @@
 //! The structures of a listing, each in one line.
 
-ghost use Rattle.std.specs.Prelude.{◌≡◌, ◌<◌, ◌≤◌, ◌++◌, All, IfOk, OnOk, codes, length};
+ghost use Rattle.std.specs.Prelude.{◌≡◌, ◌++◌, IfOk, OnOk, codes};
 ghost use Rattle.tv_listing.specs.Listed.{IsListing};
 ghost use Rattle.tv_listing.specs.ListingForm.{at_node};
 ghost use Rattle.tv_model.specs.Program.{program_of};
 ghost use Rattle.tv_model.specs.Valid.{IsValid};
-ghost use Rattle.tv_structure_form.specs.StructureForm.{IsOver};
-ghost use Rattle.tv_explain_text.specs.Texts.{structure_line, structure_lines, node_line, node_lines};
+ghost use Rattle.tv_explain_text.specs.Texts.{CanShow, CanShowNode, structure_line, structure_lines};
+ghost use Rattle.tv_explain_text.specs.Texts.{node_line, node_lines};
 ghost use Rattle.tv_explain_text.specs.Texts.{nodes_text, shown_text};
 
 use std::alloc::{AllocError, Global};
@@ -24,8 +24,7 @@ fn append_structure(
     place: usize,
     s: &Structure,
 ) -> Result<(), AllocError>
-    requires over { IsOver vocab.now s.now }
-    requires count { length vocab.now.preds ≤ 512 }
+    requires shows { CanShow vocab.now s.now }
     ensures { OnOk result (out.new.items ≡ out.old.items ++ structure_line vocab.now place s.now) }
 {
     append_numbered(out, b"", place)?;
@@ -41,9 +40,7 @@ fn append_structures(
     listing: &Listing,
     node: u32,
 ) -> Result<(), AllocError>
-    requires node { node < length listing.now }
-    requires over { All (IsOver vocab.now) (at_node listing.now node) }
-    requires count { length vocab.now.preds ≤ 512 }
+    requires shows { CanShowNode vocab.now listing.now node }
     ensures { OnOk result
         (out.new.items ≡ out.old.items ++ structure_lines vocab.now 0 (at_node listing.now node)) }
 {
@@ -72,9 +69,7 @@ fn append_node(
     listing: &Listing,
     node: u32,
 ) -> Result<(), AllocError>
-    requires node { node < length listing.now }
-    requires over { All (IsOver vocab.now) (at_node listing.now node) }
-    requires count { length vocab.now.preds ≤ 512 }
+    requires shows { CanShowNode vocab.now listing.now node }
     ensures { OnOk result
         (out.new.items ≡ out.old.items ++ node_lines vocab.now name.now (at_node listing.now node)) }
 {

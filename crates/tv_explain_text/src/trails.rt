@@ -5,7 +5,7 @@ ghost use Rattle.tv_model.specs.Program.{program_of};
 ghost use Rattle.tv_model.specs.Valid.{IsValid};
 ghost use Rattle.tv_structure_form.specs.StructureForm.{IsOver};
 ghost use Rattle.tv_edge_heads.specs.Heads.{head_at};
-ghost use Rattle.tv_explain_text.specs.Texts.{numbered_edge};
+ghost use Rattle.tv_explain_text.specs.Texts.{CanShow, numbered_edge};
 ghost use Rattle.tv_explain_text.specs.Trails.{at_hand_line, is_text, link_line, link_lines, opening_line};
 ghost use Rattle.tv_explain_text.specs.Trails.{raised_line, trail_text, value_text};
 
@@ -155,8 +155,7 @@ fn append_at_hand(
     vocab: &Vocab,
     s: &Structure,
 ) -> Result<(), AllocError>
-    requires over { IsOver vocab.now s.now }
-    requires count { length vocab.now.preds ≤ 512 }
+    requires shows { CanShow vocab.now s.now }
     ensures { OnOk result (out.new.items ≡ out.old.items ++ at_hand_line vocab.now s.now) }
 {
     out.extend_from_slice(b"at hand")?;

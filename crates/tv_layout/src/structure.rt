@@ -2,6 +2,7 @@
 
 ghost use Rattle.std.specs.Prelude.{◌≡◌, ◌≤◌, None, IfOk, IfSome, All, length};
 ghost use Rattle.tv_structure_form.specs.StructureForm.{IsStructure, IsOver, arities_of};
+ghost use Rattle.tv_layout.specs.Filled.{IsFilledFrom};
 
 use crate::text::{behind, behind_place, split_line};
 use std::alloc::{AllocError, Global};
@@ -117,8 +118,7 @@ fn put_value(s: &mut Structure, p: PredId, scan: ItemScan)
 
 fn put_summary(s: &mut Structure, u: u32)
     requires { s.old.fresh ≡ None }
-    ensures over { arities_of s.new ≡ arities_of s.old }
-    ensures fresh { s.new.fresh ≡ None }
+    ensures filled { IsFilledFrom s.old s.new }
 {
     if u < s.size() {
         s.set_summary(u, true);
@@ -127,8 +127,7 @@ fn put_summary(s: &mut Structure, u: u32)
 
 fn put_item(s: &mut Structure, subject: Subject, scan: ItemScan)
     requires { s.old.fresh ≡ None }
-    ensures over { arities_of s.new ≡ arities_of s.old }
-    ensures fresh { s.new.fresh ≡ None }
+    ensures filled { IsFilledFrom s.old s.new }
 {
     match subject {
         Subject::Summaries => put_summary(s, scan.first),
@@ -139,8 +138,7 @@ fn put_item(s: &mut Structure, subject: Subject, scan: ItemScan)
 /// Puts the items in braces.
 fn put_items(s: &mut Structure, subject: Subject, content: &[u8])
     requires { s.old.fresh ≡ None }
-    ensures over { arities_of s.new ≡ arities_of s.old }
-    ensures fresh { s.new.fresh ≡ None }
+    ensures filled { IsFilledFrom s.old s.new }
 {
     let mut scan = no_item();
     for b in content {
@@ -156,8 +154,7 @@ fn put_items(s: &mut Structure, subject: Subject, content: &[u8])
 /// Puts what stands behind the ` = ` of a line: items in braces, or one value.
 fn put_content(s: &mut Structure, subject: Subject, content: &[u8])
     requires { s.old.fresh ≡ None }
-    ensures over { arities_of s.new ≡ arities_of s.old }
-    ensures fresh { s.new.fresh ≡ None }
+    ensures filled { IsFilledFrom s.old s.new }
 {
     if content.starts_with(b"{") {
         put_items(s, subject, content);
@@ -203,8 +200,7 @@ fn behind_subject(subject: Subject, count: usize) -> usize {
 fn put_lines<'a>(s: &mut Structure, preds: &[Pred], bytes: &'a [u8]) -> Option<&'a [u8]>
     requires fresh { s.old.fresh ≡ None }
     requires count { length preds.now ≤ 512 }
-    ensures over { arities_of s.new ≡ arities_of s.old }
-    ensures fresh { s.new.fresh ≡ None }
+    ensures filled { IsFilledFrom s.old s.new }
 {
     let mut rest = bytes;
     let mut at = 0;

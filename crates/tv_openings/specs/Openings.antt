@@ -10,6 +10,10 @@ use Rattle.tv_structure_form.specs.StructureForm.{summary_at}
 abbrev pub HasOrdinaries : StructureForm → Type 0
 HasOrdinaries s = (u : ℕ) → u < s.size → summary_at s u ≡ false
 
+-- it has no mark, and there are few enough cells for a structure
+abbrev pub CanOpen : StructureForm → (cells : ℕ) → Type 0
+CanOpen s cells = (s.fresh ≡ None) × (cells ≤ 256)
+
 -- w is t without its summaries
 pub record IsCleared (t w : StructureForm) : Type 0 where
   pub is : IsStructure w

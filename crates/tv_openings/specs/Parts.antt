@@ -8,6 +8,10 @@ ArePartsFrom s u [] = u ≡ s.size
 ArePartsFrom s u (part ∷ parts) =
     (u < s.size) × (0 < part) × (summary_at s u ≡ false → part ≡ 1) × ArePartsFrom s (u + 1) parts
 
+-- u is an individual of it, and there are few enough cells for a structure
+abbrev pub HasPlaceFor : StructureForm → (u cells : ℕ) → Type 0
+HasPlaceFor s u cells = (u < s.size) × (cells ≤ 256)
+
 -- the same, where one copy of each individual before u has place beside these
 abbrev pub HavePlace : StructureForm → (cells u : ℕ) → (parts : List ℕ) → Type 0
 HavePlace s cells u parts = ArePartsFrom s u parts × (sum parts + u ≤ cells)

@@ -1,7 +1,7 @@
 //! Structures without summaries below which all small heaps of a structure lie.
 
 ghost use Rattle.std.specs.Prelude.{◌≡◌, ◌≤◌, IfOk, None};
-ghost use Rattle.tv_openings.specs.Openings.{AreAllOpenings, IsCleared};
+ghost use Rattle.tv_openings.specs.Openings.{AreAllOpenings, CanOpen, IsCleared};
 ghost use Rattle.tv_openings.specs.Parts.{AreAllParts, HavePlace};
 ghost use Rattle.tv_structure_form.specs.StructureForm.{split};
 
@@ -21,8 +21,7 @@ fn cleared(mut t: Structure) -> Structure
 
 /// The structure with so many copies of its individuals, none of them a summary.
 fn opening(alloc: Global, s: &Structure, parts: &Parts, cells: u32) -> Result<Structure, AllocError>
-    requires unmarked { s.now.fresh ≡ None }
-    requires cells { cells ≤ 256 }
+    requires can { CanOpen s.now cells }
     requires parts { HavePlace s.now cells 0 parts.now }
     ensures { IfOk result (IsCleared (split s.now parts.now)) }
 {
@@ -38,8 +37,7 @@ fn open_each(
     lists: &[Parts],
     cells: u32,
 ) -> Result<Vec<Structure>, AllocError>
-    requires unmarked { s.now.fresh ≡ None }
-    requires cells { cells ≤ 256 }
+    requires can { CanOpen s.now cells }
     requires parts { AreAllParts s.now cells 0 lists.now }
     ensures { IfOk result (λ all. AreAllOpenings s.now cells all.items) }
 {

@@ -3,7 +3,7 @@
 ghost use Rattle.std.specs.Prelude.{◌≡◌, ◌<◌, ◌≤◌, ◌+◌, ◌-◌, ◌∷◌, ◌++◌, IfOk, OnOk, map, sum};
 ghost use Rattle.std.specs.Prelude.{if◌then◌else◌};
 ghost use Rattle.std.specs.List.{range_with_len};
-ghost use Rattle.tv_openings.specs.Parts.{AreAllParts, HavePlace};
+ghost use Rattle.tv_openings.specs.Parts.{AreAllParts, HasPlaceFor, HavePlace};
 ghost use Rattle.tv_structure_form.specs.StructureForm.{summary_at};
 
 use std::alloc::{AllocError, Global};
@@ -43,9 +43,8 @@ fn push_each(
 
 /// How many copies of the individual `u` there may be at most, before so many of those behind it.
 fn most_copies(s: &Structure, u: u32, cells: u32, parts: &[u32]) -> u32
-    requires individual { u < s.now.size }
+    requires can { HasPlaceFor s.now u cells }
     requires place { sum parts.now + u < cells }
-    requires cells { cells ≤ 256 }
     ensures { result ≡ (if summary_at s.now u then cells - (sum parts.now + u) else 1) }
 {
     if s.summary(u) {
@@ -64,8 +63,7 @@ fn longer(
     cells: u32,
     lists: &[Parts],
 ) -> Result<Vec<Parts>, AllocError>
-    requires individual { u < s.now.size }
-    requires cells { cells ≤ 256 }
+    requires can { HasPlaceFor s.now u cells }
     requires all { AreAllParts s.now cells (u + 1) lists.now }
     ensures { IfOk result (λ longer. AreAllParts s.now cells u longer.items) }
 {

@@ -6,12 +6,12 @@ ghost use Rattle.tv_model.specs.Program.{action_of, message_of, update_of};
 ghost use Rattle.tv_model.specs.Rules.{signed_form};
 ghost use Rattle.tv_source.specs.Copies.{assign_of, source_of, test_of};
 ghost use Rattle.tv_source.specs.Forms.{ANull, ANew, ACopy, ALoad, AStore, AClear, TNull, TSame};
-ghost use Rattle.tv_source.specs.Valid.{IsAssignOf, IsFieldOf};
+ghost use Rattle.tv_source.specs.Valid.{IsAssignOf};
 ghost use Rattle.tv_plang_laws.specs.Compiled.{assign_action, dereferences, field_number, kept_elsewhere};
 ghost use Rattle.tv_plang_laws.specs.Compiled.{name_in, no_action, points, points_somewhere, sets_field};
 ghost use Rattle.tv_plang_laws.specs.Compiled.{sets_variable, test_action};
 ghost use Rattle.tv_plang_laws.specs.Memories.{agrees};
-ghost use Rattle.tv_plang.specs.Limits.{HasFewNames};
+ghost use Rattle.tv_plang.specs.Limits.{HasFewNames, IsFieldOfFew};
 
 use crate::formulas::{alike, both, either, every, negation, one_place, some, two_places};
 use crate::predicates::name_at;
@@ -57,8 +57,7 @@ fn variable_set(alloc: Global, x: VarId, f: Formula) -> Result<Updates, AllocErr
 }
 
 fn field_set(alloc: Global, source: &Source, f: FieldId, g: Formula) -> Result<Updates, AllocError>
-    requires few { HasFewNames (source_of source.now) }
-    requires field { IsFieldOf (source_of source.now) f.0 }
+    requires field { IsFieldOfFew (source_of source.now) f.0 }
     ensures { IfOk result (λ us. map update_of us ≡ sets_field (source_of source.now) f.0 (form_of g)) }
 {
     let mut updates = Items::new(alloc);
@@ -71,8 +70,7 @@ fn field_set(alloc: Global, source: &Source, f: FieldId, g: Formula) -> Result<U
 }
 
 fn field_predicate_number(source: &Source, f: FieldId) -> u32
-    requires few { HasFewNames (source_of source.now) }
-    requires field { IsFieldOf (source_of source.now) f.0 }
+    requires field { IsFieldOfFew (source_of source.now) f.0 }
     ensures { result ≡ field_number (source_of source.now) f.0 }
 {
     source.variables.len() as u32 + f.0
@@ -158,8 +156,7 @@ fn to_field(
     y: VarId,
     f: FieldId,
 ) -> Result<Action, AllocError>
-    requires few { HasFewNames (source_of source.now) }
-    requires field { IsFieldOf (source_of source.now) f.0 }
+    requires field { IsFieldOfFew (source_of source.now) f.0 }
     ensures { IfOk result (λ a. action_of a ≡ assign_action (source_of source.now) (ALoad x.0 y.0 f.0)) }
 {
     let number = field_predicate_number(source, f);
@@ -183,8 +180,7 @@ fn to_field(
 
 /// `!x(v_1) & f(v_1, v_2)`
 fn elsewhere(alloc: Global, source: &Source, x: VarId, f: FieldId) -> Result<Formula, AllocError>
-    requires few { HasFewNames (source_of source.now) }
-    requires field { IsFieldOf (source_of source.now) f.0 }
+    requires field { IsFieldOfFew (source_of source.now) f.0 }
     ensures { IfOk result (λ g. form_of g ≡ kept_elsewhere (source_of source.now) x.0 f.0) }
 {
     let number = field_predicate_number(source, f);
@@ -203,8 +199,7 @@ fn store(
     f: FieldId,
     y: VarId,
 ) -> Result<Action, AllocError>
-    requires few { HasFewNames (source_of source.now) }
-    requires field { IsFieldOf (source_of source.now) f.0 }
+    requires field { IsFieldOfFew (source_of source.now) f.0 }
     ensures { IfOk result (λ a. action_of a ≡ assign_action (source_of source.now) (AStore x.0 f.0 y.0)) }
 {
     let linked = both(alloc, one_place(x.0, 0), one_place(y.0, 1))?;
@@ -217,8 +212,7 @@ fn store(
 
 /// `x->f = null`
 fn clear(alloc: Global, source: &Source, x: VarId, f: FieldId) -> Result<Action, AllocError>
-    requires few { HasFewNames (source_of source.now) }
-    requires field { IsFieldOf (source_of source.now) f.0 }
+    requires field { IsFieldOfFew (source_of source.now) f.0 }
     ensures { IfOk result (λ a. action_of a ≡ assign_action (source_of source.now) (AClear x.0 f.0)) }
 {
     let mut action = dereferencing(alloc, source, x)?;

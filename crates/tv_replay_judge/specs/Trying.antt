@@ -1,7 +1,10 @@
 -- How a rule is tried in a heap: its variables get individuals one after the other.
-use Rattle.std.specs.Prelude.{ℕ, ◌≡◌, ◌≢◌, ◌<◌, ◌⊎◌, List, length, Option, All, Contains, slice_index_or}
+use Rattle.std.specs.Prelude.{ℕ, ◌≡◌, ◌≢◌, ◌<◌, ◌⊎◌, ◌∷◌, List, length, Option, All, Contains, slice_index_or}
+use Rattle.tv_coerce_members.specs.Members.{numbers_of}
 use Rattle.tv_eval.specs.AssignmentForm.{IsAssigned}
+use Rattle.tv_eval.specs.Bound.{bound_room, bound_structure}
 use Rattle.tv_eval.specs.ScratchForm.{ScratchForm, HasScratchFor}
+use Rattle.tv_eval.specs.declared.evaluator.Evaluator.{Evaluator}
 use Rattle.tv_kleene.specs.declared.K3.{K3}
 use Rattle.tv_kleene.specs.declared.K3.TheVariants.{No, Yes}
 use Rattle.tv_model.specs.Form.{Form, form_of, IsFree}
@@ -13,6 +16,7 @@ use Rattle.tv_model.specs.Valid.{IsFormulaOver}
 use Rattle.tv_structure_form.specs.StructureForm.{StructureForm, IsStructure, arities_of}
 use Rattle.tv_two_valued.specs.TwoValued.{IsTwoValued}
 use Rattle.tv_replay_judge.specs.declared.trial.Implication.{Implication}
+use Rattle.tv_replay_judge.specs.declared.trial.Turn.{Turn}
 
 -- a rule with its head as a formula
 pub record ImplicationForm : Type 0 where
@@ -49,6 +53,18 @@ CanJudge s room rule = CanTry s room (tried_rule rule)
 -- each free variable of the formula is one of the others or stands for an individual
 abbrev pub ArePlaced : (size : ℕ) → (rest : List ℕ) → List (Option ℕ) → Form → Type 0
 ArePlaced size rest places f = (v : ℕ) → IsFree v f → Contains rest v ⊎ IsAssigned size places v
+
+-- the evaluator has the heap, and can tell the formula there, whose free variables are the others or placed
+abbrev pub CanTellIn : Evaluator → StructureForm → (rest : List ℕ) → List (Option ℕ) → Form → Type 0
+CanTellIn e s rest places f = (bound_structure e ≡ s) × CanTell s (bound_room e) f × ArePlaced s.size rest places f
+
+-- so it is for each individual that the variable may stand for whose turn it is
+abbrev pub CanTellAlong : Evaluator → StructureForm → Turn → Form → Type 0
+CanTellAlong e s turn f = (turn.v.0 < 32) × CanTellIn e s (turn.v.0 ∷ numbers_of turn.rest.now) turn.a.now f
+
+-- the evaluator has the heap, and the rule can be tried there
+abbrev pub CanTryIn : Evaluator → StructureForm → ImplicationForm → Type 0
+CanTryIn e s t = (bound_structure e ≡ s) × CanTry s (bound_room e) t
 
 -- where a walk over the other variables may begin
 pub record IsCheckStart (size : ℕ) (t : ImplicationForm) (rest : List ℕ)

@@ -5,12 +5,11 @@
 ghost use Rattle.std.specs.Prelude.{◌≡◌, ◌↔◌, ◌<◌, ℕ, [], ◌∷◌, IsTrue, IsFalse, Contains};
 ghost use Rattle.tv_coerce_members.specs.Members.{numbers_of};
 ghost use Rattle.tv_eval.specs.AssignmentForm.{assignment_of};
-ghost use Rattle.tv_eval.specs.Bound.{bound_structure, bound_room};
 ghost use Rattle.tv_model.specs.Form.{form_of, IsFree};
 ghost use Rattle.tv_model.specs.Truth.{Truth, put};
 ghost use Rattle.tv_two_valued.specs.TwoValued.{heap_of};
-ghost use Rattle.tv_replay_judge.specs.Trying.{ArePlaced, CanTell, CanTry, IsGranted, IsMetFrom, IsMetUnder};
-ghost use Rattle.tv_replay_judge.specs.Trying.{IsRowOf, IsRuledOut, IsCheckStart};
+ghost use Rattle.tv_replay_judge.specs.Trying.{CanTellIn, CanTellAlong, CanTryIn, IsGranted, IsMetFrom};
+ghost use Rattle.tv_replay_judge.specs.Trying.{IsMetUnder, IsRowOf, IsRuledOut, IsCheckStart};
 ghost use Rattle.tv_replay_judge.specs.Trying.{implication_of};
 
 use tv_eval::{Assignment, Evaluator};
@@ -50,9 +49,7 @@ fn is_granted<'a>(
     rest: &[Var],
     a: &Assignment,
 ) -> bool
-    requires structure { bound_structure evaluator.old ≡ s.now }
-    requires can { CanTell s.now (bound_room evaluator.old) (form_of f.now) }
-    requires placed { ArePlaced s.now.size (numbers_of rest.now) a.now (form_of f.now) }
+    requires can { CanTellIn evaluator.old s.now (numbers_of rest.now) a.now (form_of f.now) }
     ensures granted { IsTrue result
         → IsGranted (heap_of s.now) (numbers_of rest.now) (assignment_of a.now) (form_of f.now) }
     ensures same { evaluator.new ≡ evaluator.old }
@@ -68,9 +65,7 @@ fn may_hold_whole<'a>(
     rest: &[Var],
     a: &Assignment,
 ) -> bool
-    requires structure { bound_structure evaluator.old ≡ s.now }
-    requires can { CanTell s.now (bound_room evaluator.old) (form_of f.now) }
-    requires placed { ArePlaced s.now.size (numbers_of rest.now) a.now (form_of f.now) }
+    requires can { CanTellIn evaluator.old s.now (numbers_of rest.now) a.now (form_of f.now) }
     ensures out { IsFalse result
         → IsRuledOut (heap_of s.now) (numbers_of rest.now) (assignment_of a.now) (form_of f.now) }
     ensures same { evaluator.new ≡ evaluator.old }
@@ -86,9 +81,7 @@ fn may_hold<'a>(
     rest: &[Var],
     a: &Assignment,
 ) -> bool
-    requires structure { bound_structure evaluator.old ≡ s.now }
-    requires can { CanTell s.now (bound_room evaluator.old) (form_of f.now) }
-    requires placed { ArePlaced s.now.size (numbers_of rest.now) a.now (form_of f.now) }
+    requires can { CanTellIn evaluator.old s.now (numbers_of rest.now) a.now (form_of f.now) }
     ensures out { IsFalse result
         → IsRuledOut (heap_of s.now) (numbers_of rest.now) (assignment_of a.now) (form_of f.now) }
     ensures same { evaluator.new ≡ evaluator.old }
@@ -125,11 +118,7 @@ fn row_whole<'a>(
     f: &'a Formula,
     turn: &Turn<'_, '_>,
 ) -> Row
-    requires structure { bound_structure evaluator.old ≡ s.now }
-    requires can { CanTell s.now (bound_room evaluator.old) (form_of f.now) }
-    requires variable { turn.now.v.0 < 32 }
-    requires placed { ArePlaced s.now.size (turn.now.v.0 ∷ numbers_of turn.now.rest.now) turn.now.a.now
-        (form_of f.now) }
+    requires can { CanTellAlong evaluator.old s.now turn.now (form_of f.now) }
     ensures row { IsRowOf s.now.size
         (λ u. IsRuledOut (heap_of s.now) (numbers_of turn.now.rest.now)
         (put (assignment_of turn.now.a.now) turn.now.v.0 u) (form_of f.now)) result }
@@ -149,11 +138,7 @@ fn body_row<'a>(
     f: &'a Formula,
     turn: &Turn<'_, '_>,
 ) -> Row
-    requires structure { bound_structure evaluator.old ≡ s.now }
-    requires can { CanTell s.now (bound_room evaluator.old) (form_of f.now) }
-    requires variable { turn.now.v.0 < 32 }
-    requires placed { ArePlaced s.now.size (turn.now.v.0 ∷ numbers_of turn.now.rest.now) turn.now.a.now
-        (form_of f.now) }
+    requires can { CanTellAlong evaluator.old s.now turn.now (form_of f.now) }
     ensures row { IsRowOf s.now.size
         (λ u. IsRuledOut (heap_of s.now) (numbers_of turn.now.rest.now)
         (put (assignment_of turn.now.a.now) turn.now.v.0 u) (form_of f.now)) result }
@@ -176,11 +161,7 @@ fn lacking_row<'a>(
     f: &'a Formula,
     turn: &Turn<'_, '_>,
 ) -> Row
-    requires structure { bound_structure evaluator.old ≡ s.now }
-    requires can { CanTell s.now (bound_room evaluator.old) (form_of f.now) }
-    requires variable { turn.now.v.0 < 32 }
-    requires placed { ArePlaced s.now.size (turn.now.v.0 ∷ numbers_of turn.now.rest.now) turn.now.a.now
-        (form_of f.now) }
+    requires can { CanTellAlong evaluator.old s.now turn.now (form_of f.now) }
     ensures row { IsRowOf s.now.size
         (λ u. IsGranted (heap_of s.now) (numbers_of turn.now.rest.now)
         (put (assignment_of turn.now.a.now) turn.now.v.0 u) (form_of f.now)) result }
@@ -200,8 +181,7 @@ fn places_for<'a>(
     trial: &Implication<'a>,
     turn: &Turn<'_, '_>,
 ) -> Row
-    requires structure { bound_structure evaluator.old ≡ s.now }
-    requires ready { CanTry s.now (bound_room evaluator.old) (implication_of trial.now) }
+    requires ready { CanTryIn evaluator.old s.now (implication_of trial.now) }
     requires variable { turn.now.v.0 < 32 }
     requires walk { IsCheckStart s.now.size (implication_of trial.now)
         (turn.now.v.0 ∷ numbers_of turn.now.rest.now) turn.now.a.now }
@@ -227,8 +207,7 @@ fn is_met<'a>(
     trial: &Implication<'a>,
     a: &Assignment,
 ) -> bool
-    requires structure { bound_structure evaluator.old ≡ s.now }
-    requires ready { CanTry s.now (bound_room evaluator.old) (implication_of trial.now) }
+    requires ready { CanTryIn evaluator.old s.now (implication_of trial.now) }
     requires walk { IsCheckStart s.now.size (implication_of trial.now) [] a.now }
     ensures met { IsTrue result
         ↔ IsMetUnder (heap_of s.now) (implication_of trial.now) (assignment_of a.now) }
@@ -249,8 +228,7 @@ fn is_met_from<'a>(
     rest: &[Var],
     a: &Assignment,
 ) -> bool
-    requires structure { bound_structure evaluator.old ≡ s.now }
-    requires ready { CanTry s.now (bound_room evaluator.old) (implication_of trial.now) }
+    requires ready { CanTryIn evaluator.old s.now (implication_of trial.now) }
     requires walk { IsCheckStart s.now.size (implication_of trial.now) (numbers_of rest.now) a.now }
     ensures met { IsTrue result
         ↔ IsMetFrom (heap_of s.now) (implication_of trial.now) (numbers_of rest.now) (assignment_of a.now) }
@@ -281,8 +259,7 @@ pub(crate) fn is_met_by_all<'a>(
     vars: &[Var],
     a: &Assignment,
 ) -> bool
-    requires structure { bound_structure evaluator.old ≡ s.now }
-    requires ready { CanTry s.now (bound_room evaluator.old) (implication_of trial.now) }
+    requires ready { CanTryIn evaluator.old s.now (implication_of trial.now) }
     requires walk { IsCheckStart s.now.size (implication_of trial.now) (numbers_of vars.now) a.now }
     ensures met { IsTrue result
         ↔ IsMetFrom (heap_of s.now) (implication_of trial.now) (numbers_of vars.now) (assignment_of a.now) }

@@ -8,3 +8,4 @@ pub mod Laws
 pub mod Reading
 pub mod Nodes
 pub mod Views
+pub mod Listings

@@ -3,10 +3,10 @@
 ghost use Rattle.std.specs.Prelude.{◌≡◌, ◌<◌, List, IfOk, IfErr, MatchBool, OnOk, length, nat_lt, slice_get};
 ghost use Rattle.tv_listing.specs.ListingForm.{at_node};
 ghost use Rattle.tv_model.specs.Program.{program_of};
-ghost use Rattle.tv_model.specs.Valid.{IsValid};
 ghost use Rattle.tv_phrases.specs.Reading.{Told};
 ghost use Rattle.tv_report.specs.Lines.{NamesMessage, IsMapLine, LeadsTo, message_key, map_key};
 ghost use Rattle.tv_report.specs.Lines.{AreMessageLines, AreMapLines};
+ghost use Rattle.tv_report.specs.Listings.{HasItsNodes};
 ghost use Rattle.tv_report.specs.Once.{GoesOn, Breaks};
 ghost use Rattle.tv_report.specs.Views.{message_lines, map_lines};
 
@@ -77,8 +77,7 @@ fn edge_at(program: &Program, number: u32) -> Option<Edge>
 
 /// Whether the item's structure is listed at the edge's source, and the target where the item leads to.
 fn leads_to(program: &Program, listing: &Listing, item: Item, target: u32) -> bool
-    requires valid { IsValid (program_of program.now) }
-    requires nodes { length listing.now ≡ length program.now.nodes }
+    requires listing { HasItsNodes program.now listing.now }
     ensures { MatchBool result (LeadsTo (program_of program.now) listing.now item target)
         (¬ LeadsTo (program_of program.now) listing.now item target) }
 {
@@ -104,8 +103,7 @@ fn note_map<'a>(
     seen: &mut Keys,
     found: &MapText<'a>,
 ) -> Result<(), PhraseError<'a>>
-    requires valid { IsValid (program_of program.now) }
-    requires nodes { length listing.now ≡ length program.now.nodes }
+    requires listing { HasItsNodes program.now listing.now }
     ensures noted { OnOk result (GoesOn (IsMapLine (program_of program.now) listing.now) map_key seen.old.keys
         seen.new.keys found.now.line) }
     ensures fault { IfErr result (λ e. Told e
@@ -127,8 +125,7 @@ pub(crate) fn map_list<'a>(
     listing: &Listing,
     maps: Vec<MapText<'a>>,
 ) -> Result<MapLines, PhraseError<'a>>
-    requires valid { IsValid (program_of program.now) }
-    requires nodes { length listing.now ≡ length program.now.nodes }
+    requires listing { HasItsNodes program.now listing.now }
     ensures same { IfOk result (λ lines. lines ≡ map_lines maps.entry.items) }
     ensures kept { IfOk result (AreMapLines (program_of program.now) listing.now) }
     ensures fault { IfErr result

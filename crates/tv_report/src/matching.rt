@@ -9,6 +9,7 @@ ghost use Rattle.tv_listing.specs.ListingForm.{at_node};
 ghost use Rattle.tv_model.specs.Program.{program_of};
 ghost use Rattle.tv_model.specs.Valid.{IsValid};
 ghost use Rattle.tv_report.specs.Lines.{IsMessageLine, message_key};
+ghost use Rattle.tv_report.specs.Listings.{CanList, HasFewNodes, IsNodeRead, StayRead};
 ghost use Rattle.tv_report.specs.Meaning.{IsReportText};
 ghost use Rattle.tv_report.specs.Once.{AreOnce, GoesOn};
 ghost use Rattle.tv_report.specs.Text.{node_text, nodes_text, message_text};
@@ -82,11 +83,8 @@ fn list_structures<'a>(
     count: u32,
     bytes: &'a [u8],
 ) -> Result<Option<&'a [u8]>, AllocError>
-    requires vocabulary { IsVocabulary vocab.now }
-    requires node { node < length listing.old }
-    requires kept { All (All (IsRead vocab.now)) listing.old }
-    ensures nodes { length listing.new ≡ length listing.old }
-    ensures kept { All (All (IsRead vocab.now)) listing.new }
+    requires can { CanList vocab.now node listing.old }
+    ensures kept { StayRead vocab.now listing.old listing.new }
 {
     let mut rest = bytes;
     for _ in 0..count {
@@ -108,11 +106,8 @@ fn list_node<'a>(
     name: &[u8],
     bytes: &'a [u8],
 ) -> Result<Option<&'a [u8]>, AllocError>
-    requires vocabulary { IsVocabulary vocab.now }
-    requires node { node < length listing.old }
-    requires kept { All (All (IsRead vocab.now)) listing.old }
-    ensures nodes { length listing.new ≡ length listing.old }
-    ensures kept { All (All (IsRead vocab.now)) listing.new }
+    requires can { CanList vocab.now node listing.old }
+    ensures kept { StayRead vocab.now listing.old listing.new }
 {
     let (line, rest) = split_line(bytes);
     match node_count(line, name) {
@@ -128,8 +123,7 @@ fn take_listing<'a>(
     program: &Program,
     bytes: &'a [u8],
 ) -> Result<Option<(Listing, &'a [u8])>, AllocError>
-    requires vocabulary { IsVocabulary program.now.vocab }
-    requires few { length program.now.nodes ≤ 4096 }
+    requires program { HasFewNodes program.now }
     ensures nodes { IfOk result (λ found. IfSome found (λ x. length x.0 ≡ length program.now.nodes)) }
     ensures kept { IfOk result (λ found. IfSome found (λ x. All (All (IsRead program.now.vocab)) x.0)) }
 {
@@ -218,9 +212,7 @@ fn behind_structures<'a>(
     node: u32,
     bytes: &'a [u8],
 ) -> Result<Option<&'a [u8]>, AllocError>
-    requires vocabulary { IsVocabulary vocab.now }
-    requires node { node < length listing.now }
-    requires over { All (IsRead vocab.now) (at_node listing.now node) }
+    requires node { IsNodeRead vocab.now listing.now node }
     ensures { IfOk result (λ found. IfSome found (λ rest. bytes.now
         ≡ flat_map (canonical_text vocab.now) (at_node listing.now node) ++ rest.now)) }
 {
@@ -243,9 +235,7 @@ fn behind_node<'a>(
     name: &[u8],
     bytes: &'a [u8],
 ) -> Result<Option<&'a [u8]>, AllocError>
-    requires vocabulary { IsVocabulary vocab.now }
-    requires node { node < length listing.now }
-    requires over { All (IsRead vocab.now) (at_node listing.now node) }
+    requires node { IsNodeRead vocab.now listing.now node }
     ensures few { IfOk result (λ found. IfSome found (λ rest. length (at_node listing.now node) < 2 ^ 32)) }
     ensures text { IfOk result (λ found. IfSome found (λ rest. bytes.now
         ≡ node_text vocab.now name.now (at_node listing.now node) ++ rest.now)) }
@@ -270,8 +260,7 @@ fn behind_nodes<'a>(
     listing: &Listing,
     bytes: &'a [u8],
 ) -> Result<Option<&'a [u8]>, AllocError>
-    requires vocabulary { IsVocabulary program.now.vocab }
-    requires few { length program.now.nodes ≤ 4096 }
+    requires program { HasFewNodes program.now }
     requires nodes { length listing.now ≡ length program.now.nodes }
     requires over { All (All (IsRead program.now.vocab)) listing.now }
     ensures few { IfOk result (λ found. IfSome found

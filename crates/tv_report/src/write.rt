@@ -7,10 +7,9 @@ ghost use Rattle.tv_model.specs.Program.{program_of};
 ghost use Rattle.tv_model.specs.Valid.{IsValid};
 ghost use Rattle.tv_listing.specs.Listed.{IsListing};
 ghost use Rattle.tv_listing.specs.ListingForm.{at_node};
-ghost use Rattle.tv_structure_form.specs.StructureForm.{IsOver};
 ghost use Rattle.tv_tvs.specs.Canonical.{canonical_text, comma_text, value_text};
-ghost use Rattle.tv_tvs.specs.Meaning.{IsVocabulary};
 ghost use Rattle.tv_report.specs.Lines.{message_at};
+ghost use Rattle.tv_report.specs.Listings.{HasFewNodes, IsNodeOver};
 ghost use Rattle.tv_report.specs.Text.{node_line, node_text, nodes_text, message_text, item_text, map_text};
 ghost use Rattle.tv_report.specs.Text.{report_text, said};
 ghost use Rattle.tv_listing.specs.declared.analysis.Item.TheVariants as item;
@@ -44,9 +43,7 @@ fn write_structures(
     listing: &Listing,
     node: u32,
 ) -> Result<(), AllocError>
-    requires node { node < length listing.now }
-    requires over { All (IsOver vocab.now) (at_node listing.now node) }
-    requires vocabulary { IsVocabulary vocab.now }
+    requires node { IsNodeOver vocab.now listing.now node }
     ensures { OnOk result
         (out.new.items ≡ out.old.items ++ flat_map (canonical_text vocab.now) (at_node listing.now node)) }
 {
@@ -64,9 +61,7 @@ fn write_node(
     listing: &Listing,
     node: u32,
 ) -> Result<(), AllocError>
-    requires node { node < length listing.now }
-    requires over { All (IsOver vocab.now) (at_node listing.now node) }
-    requires vocabulary { IsVocabulary vocab.now }
+    requires node { IsNodeOver vocab.now listing.now node }
     ensures { OnOk result
         (out.new.items ≡ out.old.items ++ node_text vocab.now name.now (at_node listing.now node)) }
 {
@@ -81,8 +76,7 @@ fn write_nodes(
     program: &Program,
     listing: &Listing,
 ) -> Result<(), AllocError>
-    requires vocabulary { IsVocabulary program.now.vocab }
-    requires few { length program.now.nodes ≤ 4096 }
+    requires program { HasFewNodes program.now }
     requires listing { IsListing program.now listing.now }
     ensures { OnOk result
         (out.new.items ≡ out.old.items ++ nodes_text program.now.vocab program.now.nodes listing.now) }

@@ -1,12 +1,20 @@
 -- What individuals are called, as the writer finds it: predicate by predicate.
-use Rattle.std.specs.Prelude.{ℕ, ◌≡◌, ◌+◌, ◌==◌, Bool, false, List, [], ◌∷◌, map, Option, Some, None}
-use Rattle.std.specs.Prelude.{if◌then◌else◌}
+use Rattle.std.specs.Prelude.{ℕ, ◌≡◌, ◌<◌, ◌≤◌, ◌+◌, ◌==◌, Bool, false, List, [], ◌∷◌, length, map, Option, Some}
+use Rattle.std.specs.Prelude.{None, if◌then◌else◌}
 use Rattle.std.specs.List.{range_with_len}
 use Rattle.tv_model.specs.declared.program.Pred.{Pred}
-use Rattle.tv_structure_form.specs.StructureForm.{StructureForm}
+use Rattle.tv_structure_form.specs.StructureForm.{StructureForm, arities_of}
 use Rattle.tv_struct.specs.StructureRows.{unary_row}
 use Rattle.tv_show.specs.declared.line.Labels.{Labels}
 use Rattle.tv_show.specs.Line.{yes_places, target_text}
+
+-- the structure's predicates are these, which are few enough to have numbers
+abbrev pub AreItsPreds : List Pred → StructureForm → Type 0
+AreItsPreds preds s = (arities_of s ≡ map (λ pred. pred.arity) preds) × (length preds ≤ 512)
+
+-- and this is an individual of it
+abbrev pub IsIndividualOf : List Pred → StructureForm → ℕ → Type 0
+IsIndividualOf preds s u = AreItsPreds preds s × (u < s.size)
 
 -- the place in a list of one place
 abbrev pub only : List ℕ → Option ℕ

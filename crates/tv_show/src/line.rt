@@ -8,7 +8,7 @@ ghost use Rattle.tv_structure_form.specs.StructureForm.{IsOver, arities_of};
 ghost use Rattle.tv_show.specs.Texts.{marked, valued};
 ghost use Rattle.tv_show.specs.Line.{opening, closing, yes_places, telling, numbered, numeral};
 ghost use Rattle.tv_show.specs.Line.{target_text, individual_text, line_of};
-ghost use Rattle.tv_show.specs.Named.{AreLabels, only, told, all_told, is_at, named};
+ghost use Rattle.tv_show.specs.Named.{AreItsPreds, AreLabels, IsIndividualOf, only, told, all_told, is_at, named};
 ghost use Rattle.tv_show.specs.Rows.{each_pred, unary_marked, nullary_marked, arrow_marked, row_marked};
 ghost use Rattle.tv_show.specs.Rows.{binary_marked};
 
@@ -88,8 +88,7 @@ fn told(s: &Structure, p: PredId, pred: &Pred) -> Option<u32>
 
 /// The individuals that the predicates tell from all others, predicate by predicate.
 fn all_told(alloc: Global, preds: &[Pred], s: &Structure) -> Result<Vec<Option<u32>>, AllocError>
-    requires over { arities_of s.now ≡ map (λ pred. pred.arity) preds.now }
-    requires count { length preds.now ≤ 512 }
+    requires of { AreItsPreds preds.now s.now }
     ensures { IfOk result (λ all. all.items ≡ all_told s.now 0 preds.now) }
 {
     let mut all = Vec::with_capacity(alloc, preds.len())?;
@@ -178,8 +177,7 @@ fn targets(
 
 /// What the individuals of the structure are called.
 fn name_all(alloc: Global, preds: &[Pred], s: &Structure) -> Result<Labels, AllocError>
-    requires over { arities_of s.now ≡ map (λ pred. pred.arity) preds.now }
-    requires count { length preds.now ≤ 512 }
+    requires of { AreItsPreds preds.now s.now }
     ensures { IfOk result (λ labels. AreLabels preds.now s.now labels) }
 {
     let told = all_told(alloc, preds, s)?;
@@ -231,9 +229,7 @@ fn append_unaries(
     s: &Structure,
     u: u32,
 ) -> Result<(), AllocError>
-    requires over { arities_of s.now ≡ map (λ pred. pred.arity) preds.now }
-    requires count { length preds.now ≤ 512 }
-    requires individual { u < s.now.size }
+    requires of { IsIndividualOf preds.now s.now u }
     ensures { OnOk result
         (out.new.items ≡ out.old.items ++ each_pred 1 (unary_marked s.now u) 0 preds.now) }
 {
@@ -252,10 +248,8 @@ fn say(
     s: &Structure,
     u: u32,
 ) -> Result<(), AllocError>
-    requires over { arities_of s.now ≡ map (λ pred. pred.arity) preds.now }
-    requires count { length preds.now ≤ 512 }
+    requires of { IsIndividualOf preds.now s.now u }
     requires told { told.now ≡ all_told s.now 0 preds.now }
-    requires individual { u < s.now.size }
     ensures { OnOk result (said.new.items ≡ marked (codes "&") (numbered u (telling s.now u 0 preds.now))
         ++ each_pred 1 (unary_marked s.now u) 0 preds.now) }
 {
@@ -338,10 +332,8 @@ fn append_arrows(
     s: &Structure,
     u: u32,
 ) -> Result<(), AllocError>
-    requires over { arities_of s.now ≡ map (λ pred. pred.arity) preds.now }
-    requires count { length preds.now ≤ 512 }
+    requires of { IsIndividualOf preds.now s.now u }
     requires targets { length targets.now ≡ s.now.size }
-    requires individual { u < s.now.size }
     ensures { OnOk result
         (out.new.items ≡ out.old.items ++ each_pred 2 (binary_marked s.now targets.now u) 0 preds.now) }
 {
@@ -360,10 +352,8 @@ fn append_individual(
     s: &Structure,
     u: u32,
 ) -> Result<(), AllocError>
-    requires over { arities_of s.now ≡ map (λ pred. pred.arity) preds.now }
-    requires count { length preds.now ≤ 512 }
+    requires of { IsIndividualOf preds.now s.now u }
     requires labels { AreLabels preds.now s.now labels.now }
-    requires individual { u < s.now.size }
     ensures { OnOk result
         (out.new.items ≡ out.old.items ++ (codes "  " ++ individual_text preds.now s.now u)) }
 {
@@ -382,8 +372,7 @@ fn append_individuals(
     preds: &[Pred],
     s: &Structure,
 ) -> Result<(), AllocError>
-    requires over { arities_of s.now ≡ map (λ pred. pred.arity) preds.now }
-    requires count { length preds.now ≤ 512 }
+    requires of { AreItsPreds preds.now s.now }
     ensures { OnOk result (out.new.items ≡ out.old.items
         ++ flat_map (λ u. codes "  " ++ individual_text preds.now s.now u) (range_with_len 0 s.now.size)) }
 {
@@ -414,8 +403,7 @@ fn append_nullary(
 
 /// Appends what the predicates without arguments say, each behind two blanks.
 fn append_nullaries(out: &mut Vec<u8>, preds: &[Pred], s: &Structure) -> Result<(), AllocError>
-    requires over { arities_of s.now ≡ map (λ pred. pred.arity) preds.now }
-    requires count { length preds.now ≤ 512 }
+    requires of { AreItsPreds preds.now s.now }
     ensures { OnOk result
         (out.new.items ≡ out.old.items ++ each_pred 0 (nullary_marked s.now) 0 preds.now) }
 {

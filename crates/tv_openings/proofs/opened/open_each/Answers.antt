@@ -21,7 +21,7 @@ loop-parts-preserved c =
     in let have : HavePlace s c.args.cells 0 c.parts-item.result
     = subst (HavePlace s c.args.cells 0) there (c.requires.parts.each k [] c.loop-parts-test.true)
     in let opening : IsPlainOpening (arities_of s) c.args.cells c.in_ok-t.t
-    = cleared_opening s c.in_ok-t.t c.args.cells c.parts-item.result c.size.ensures.kept c.requires.unmarked have
+    = cleared_opening s c.in_ok-t.t c.args.cells c.parts-item.result c.size.ensures.kept c.requires.can.0 have
     c.in_ok-t.ensures
     in record {
       each = subst (All (IsPlainOpening (arities_of s) c.args.cells)) (sym c.in_ok-push.ensures.items)

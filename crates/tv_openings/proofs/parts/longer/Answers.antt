@@ -14,7 +14,7 @@ loop-parts-preserved c =
     = get_or_default lists k [] c.parts-item.result c.loop-parts-test.true ∙ sym c.parts-item.is
     in longer_step s c.args.cells c.args.u lists k c.parts-item.result c.loop-parts.longer.items
     c.push_each.new.lists.items
-    there c.requires.individual
+    there c.requires.can.0
     (subst (HavePlace s c.args.cells (c.args.u + 1)) there (c.requires.all.each k [] c.loop-parts-test.true))
     c.loop-parts.invariant
     (pushed_each s c.args.cells c.args.u c.parts-item.result c.as_slice.result.now c.as_slice-in-loop-parts.result.now
@@ -24,4 +24,4 @@ loop-parts-preserved c =
 pub returns : goal.returns
 returns c =
     longer_all c.args.s.now c.args.cells c.args.u c.args.lists.now c.loop-parts.parts-index c.loop-parts.longer.items
-    c.requires.individual c.loop-parts-test.false c.requires.all c.loop-parts.invariant
+    c.requires.can.0 c.loop-parts-test.false c.requires.all c.loop-parts.invariant

@@ -4,11 +4,10 @@ use Rattle.std.specs.Prelude.{All}
 use Rattle.std.proofs.lemmas.List.Elements.{All-head}
 use Rattle.tv_coerce_members.specs.Members.{numbers_of}
 use Rattle.tv_eval.specs.AssignmentForm.{assignment_of}
-use Rattle.tv_eval.specs.Bound.{bound_room, bound_structure}
 use Rattle.tv_model.specs.declared.formula.Var.{Var}
 use Rattle.tv_model.specs.Truth.{put}
 use Rattle.tv_two_valued.specs.TwoValued.{heap_of}
-use Rattle.tv_replay_judge.specs.Trying.{CanTry, IsFreeIn, IsMetFrom, IsCheckStart}
+use Rattle.tv_replay_judge.specs.Trying.{CanTryIn, IsFreeIn, IsMetFrom, IsCheckStart}
 use Rattle.tv_replay_judge.specs.Trying.{implication_of}
 use Rattle.tv_replay_judge.proofs.Passed.{walked-all, walked-more}
 use Rattle.tv_replay_judge.proofs.Walked.{met-at_end, none-at, split-vars, tail-shorter, tried-all}
@@ -23,7 +22,7 @@ places_for-places-requires-clause-variable m c =
     in let d : Var = record { 0 = 0 }
     in let split = split-vars rest d (omega (arith, c.in-len1-up.len_at_least))
     in let free = subst (All (λ v. IsFreeIn v t)) split c.requires.walk.free
-    in variable-in_range s t (get_or rest 0 d).0 c.requires.ready.body.formula c.requires.ready.head.formula
+    in variable-in_range s t (get_or rest 0 d).0 c.requires.ready.1.body.formula c.requires.ready.1.head.formula
     (All-head (λ v. IsFreeIn v t) (get_or rest 0 d).0 _ free)
 
 pub with-requires : goal.with-requires
@@ -34,7 +33,7 @@ with-requires m c =
     in let d : Var = record { 0 = 0 }
     in let split = split-vars rest d (omega (arith, c.in-len1-up.len_at_least))
     in let free = subst (All (λ v. IsFreeIn v t)) split c.requires.walk.free
-    in variable-in_range s t (get_or rest 0 d).0 c.requires.ready.body.formula c.requires.ready.head.formula
+    in variable-in_range s t (get_or rest 0 d).0 c.requires.ready.1.body.formula c.requires.ready.1.head.formula
     (All-head (λ v. IsFreeIn v t) (get_or rest 0 d).0 _ free)
 
 pub is_met_from-requires : goal.is_met_from-requires
@@ -53,12 +52,9 @@ is_met_from-requires m c =
     in (
       falls,
       (
-        subst (λ e. bound_structure e ≡ s) (sym stays) c.requires.structure,
-        (
-          subst (λ e. CanTry s (bound_room e) t) (sym stays) c.requires.ready,
-          walk-on s.size v c.in-Some.u tail t c.args.a.now c.with.result
-              (subst (λ vs. IsCheckStart s.size t vs c.args.a.now) split c.requires.walk) within c.with.ensures.places,
-        ),
+        subst (λ e. CanTryIn e s t) (sym stays) c.requires.ready,
+        walk-on s.size v c.in-Some.u tail t c.args.a.now c.with.result
+            (subst (λ vs. IsCheckStart s.size t vs c.args.a.now) split c.requires.walk) within c.with.ensures.places,
       ),
     )
 
@@ -74,7 +70,7 @@ returns-then-not-is_met_from-clause-met m c =
     in let free = All-head (λ w. IsFreeIn w t) v tail (subst (All (λ w. IsFreeIn w t)) split c.requires.walk.free)
     in let within : c.in-Some.u < s.size = omega (arith, c.in-Some.ensures.1, c.places_for-places.ensures.row.size)
     in subst (λ vs. IsTrue false ↔ IsMetFrom (heap_of s) t vs (assignment_of c.args.a.now)) (sym split)
-    (tried-broken s c.requires.ready.body.structure t v tail (assignment_of c.args.a.now) free c.in-Some.u within
+    (tried-broken s c.requires.ready.1.body.structure t v tail (assignment_of c.args.a.now) free c.in-Some.u within
     (subst (λ a. IsTrue false ↔ IsMetFrom (heap_of s) t tail a) c.with.ensures.total c.if-not-is_met_from.ensures.met))
 
 pub loop-u-preserved : goal.loop-u-preserved
@@ -112,6 +108,6 @@ returns-in_default-clause-met m c =
     in let split : numbers_of rest ≡ v ∷ tail = split-vars rest d (omega (arith, c.in-len1-up.len_at_least))
     in let free = All-head (λ w. IsFreeIn w t) v tail (subst (All (λ w. IsFreeIn w t)) split c.requires.walk.free)
     in subst (λ vs. IsTrue true ↔ IsMetFrom (heap_of s) t vs (assignment_of c.args.a.now)) (sym split)
-    (tried-all s c.requires.ready.body.structure t v tail (assignment_of c.args.a.now) free s.size (omega arith)
+    (tried-all s c.requires.ready.1.body.structure t v tail (assignment_of c.args.a.now) free s.size (omega arith)
     (walked-all s.size (λ k. IsMetFrom (heap_of s) t tail (put (assignment_of c.args.a.now) v k)) c.places_for-places.result c.loop-u.from
     c.places_for-places.ensures.row c.loop-u.invariant.2 c.in_default.ensures))

@@ -11,12 +11,13 @@ use Rattle.tv_replay_judge.proofs.trial.is_granted.Goals as goal
 
 pub holds-requires-clause-assigned : goal.holds-requires-clause-assigned
 holds-requires-clause-assigned c =
-    subst (λ t. AreAssigned t.size c.args.a.now (form_of c.args.f.now)) (sym c.requires.structure)
-    (settled-assigned c.args.s.now.size (numbers_of c.args.rest.now) c.args.a.now (form_of c.args.f.now) c.requires.placed
+    subst (λ t. AreAssigned t.size c.args.a.now (form_of c.args.f.now)) (sym c.requires.can.0)
+    (settled-assigned c.args.s.now.size (numbers_of c.args.rest.now) c.args.a.now (form_of c.args.f.now)
+    c.requires.can.2
     (c.is_settled.ensures c.if-is_settled.true))
 
 pub returns-then-is_settled-clause-granted : goal.returns-then-is_settled-clause-granted
 returns-then-is_settled-clause-granted c yes_ =
     settled-granted (heap_of c.args.s.now) (numbers_of c.args.rest.now) (assignment_of c.args.a.now) (form_of c.args.f.now)
     (c.is_settled.ensures c.if-is_settled.true)
-    (subst (λ t. Truth (heap_of t) (assignment_of c.args.a.now) (form_of c.args.f.now)) c.requires.structure (c.holds.ensures.truth.0 yes_))
+    (subst (λ t. Truth (heap_of t) (assignment_of c.args.a.now) (form_of c.args.f.now)) c.requires.can.0 (c.holds.ensures.truth.0 yes_))

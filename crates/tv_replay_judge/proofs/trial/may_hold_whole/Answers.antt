@@ -12,8 +12,9 @@ use Rattle.tv_replay_judge.proofs.trial.may_hold_whole.Goals as goal
 
 pub holds-requires-clause-assigned : goal.holds-requires-clause-assigned
 holds-requires-clause-assigned c =
-    subst (λ t. AreAssigned t.size c.args.a.now (form_of c.args.f.now)) (sym c.requires.structure)
-    (settled-assigned c.args.s.now.size (numbers_of c.args.rest.now) c.args.a.now (form_of c.args.f.now) c.requires.placed
+    subst (λ t. AreAssigned t.size c.args.a.now (form_of c.args.f.now)) (sym c.requires.can.0)
+    (settled-assigned c.args.s.now.size (numbers_of c.args.rest.now) c.args.a.now (form_of c.args.f.now)
+    c.requires.can.2
     (c.is_settled.ensures c.if-not-is_settled.false))
 
 pub returns-else-not-is_settled-clause-out : goal.returns-else-not-is_settled-clause-out
@@ -21,4 +22,4 @@ returns-else-not-is_settled-clause-out c no_ =
     settled-out (heap_of c.args.s.now) (numbers_of c.args.rest.now) (assignment_of c.args.a.now) (form_of c.args.f.now)
     (c.is_settled.ensures c.if-not-is_settled.false)
     (λ truth. false≢true (sym no_ ∙ c.holds.ensures.truth.1
-    (subst (λ t. Truth (heap_of t) (assignment_of c.args.a.now) (form_of c.args.f.now)) (sym c.requires.structure) truth)))
+    (subst (λ t. Truth (heap_of t) (assignment_of c.args.a.now) (form_of c.args.f.now)) (sym c.requires.can.0) truth)))

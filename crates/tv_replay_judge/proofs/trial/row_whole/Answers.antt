@@ -15,9 +15,9 @@ pub row-requires-clause-assigned : goal.row-requires-clause-assigned
 row-requires-clause-assigned c =
     let s = c.args.s.now
     in let f = form_of c.args.f.now
-    in subst (λ t. AreAssigned t.size c.args.turn.now.a.now (FExists c.args.turn.now.v.0 f)) (sym c.requires.structure)
+    in subst (λ t. AreAssigned t.size c.args.turn.now.a.now (FExists c.args.turn.now.v.0 f)) (sym c.requires.can.1.0)
     (row-assigned s (bound_room c.args.evaluator.now) c.args.turn.now.a.now c.args.turn.now.v.0 (numbers_of
-    c.args.turn.now.rest.now) f c.requires.can c.requires.placed
+    c.args.turn.now.rest.now) f c.requires.can.1.1 c.requires.can.1.2
     (c.is_last.ensures c.if-is_last.true))
 
 pub returns-then-is_last-clause-row : goal.returns-then-is_last-clause-row
@@ -27,8 +27,8 @@ returns-then-is_last-clause-row c =
     in let a = assignment_of c.args.turn.now.a.now
     in let rest = numbers_of c.args.turn.now.rest.now
     in let read : c.row.result ≡ values_along s a c.args.turn.now.v.0 f = c.row.ensures.exact ∙ ap (λ t.
-    values_along t a c.args.turn.now.v.0 f) c.requires.structure
+    values_along t a c.args.turn.now.v.0 f) c.requires.can.1.0
     in subst (IsRowOf s.size (λ u. IsRuledOut (heap_of s) rest (put a c.args.turn.now.v.0 u) f)) (sym read)
-    (row-out s (bound_room c.args.evaluator.now) c.args.turn.now.a.now c.args.turn.now.v.0 rest f c.requires.can
-    c.requires.placed
+    (row-out s (bound_room c.args.evaluator.now) c.args.turn.now.a.now c.args.turn.now.v.0 rest f c.requires.can.1.1
+    c.requires.can.1.2
     (c.is_last.ensures c.if-is_last.true))

@@ -9,7 +9,7 @@ use Rattle.tv_report.proofs.matching.list_structures.Goals as goal
 
 pub loop-preserved : goal.loop-preserved
 loop-preserved c =
-    let within : c.args.node < length c.loop.listing = omega (arith, c.requires.node, c.loop.invariant.nodes)
+    let within : c.args.node < length c.loop.listing = omega (arith, c.requires.can.1, c.loop.invariant.nodes)
     in let taken = c.in_ok-s.ensures
     in let over = subst (λ o. IfSome o (λ x. IsOver c.args.vocab.now x.0)) c.in-Some.is taken.over
     in let fresh = subst (λ o. IfSome o (λ x. x.0.fresh ≡ None)) c.in-Some.is taken.fresh

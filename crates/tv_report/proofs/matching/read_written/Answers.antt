@@ -10,11 +10,12 @@ use Rattle.tv_report.specs.Text.{nodes_text, message_text}
 use Rattle.tv_report.proofs.Fronts.{is_listing, is_report}
 use Rattle.tv_report.proofs.matching.read_written.Goals as goal
 
-pub take_listing-requires-clause-vocabulary : goal.take_listing-requires-clause-vocabulary
-take_listing-requires-clause-vocabulary c = (valid_fits c.args.program.now c.requires.valid).vocabulary
+pub take_listing-requires : goal.take_listing-requires
+take_listing-requires c = ((valid_fits c.args.program.now c.requires.valid).vocabulary, c.requires.valid.node_count)
 
-pub behind_nodes-requires-clause-vocabulary : goal.behind_nodes-requires-clause-vocabulary
-behind_nodes-requires-clause-vocabulary c = (valid_fits c.args.program.now c.requires.valid).vocabulary
+pub behind_nodes-requires-clause-program : goal.behind_nodes-requires-clause-program
+behind_nodes-requires-clause-program c =
+    ((valid_fits c.args.program.now c.requires.valid).vocabulary, c.requires.valid.node_count)
 
 pub behind_nodes-requires-clause-nodes : goal.behind_nodes-requires-clause-nodes
 behind_nodes-requires-clause-nodes c = subst (λ o. IfSome o (λ x. length x.0 ≡ length c.args.program.now.nodes)) c.in-Some-2.is c.in_ok-listing.ensures.nodes
