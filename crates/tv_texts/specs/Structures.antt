@@ -3,12 +3,18 @@ use Rattle.std.specs.Prelude.{ℕ, ◌≤◌, ◌<◌, ◌^◌, All, List, lengt
 use Rattle.tv_lex.specs.Gather.{longest_gathered}
 use Rattle.tv_lex.specs.Pieces.{Reads}
 use Rattle.tv_lex.specs.Token.{spec_tokens}
+use Rattle.tv_model.specs.Program.{program_of}
+use Rattle.tv_model.specs.Valid.{IsValid}
 use Rattle.tv_model.specs.declared.program.Program.{Program}
 use Rattle.tv_model.specs.declared.program.Vocab.{Vocab}
 use Rattle.tv_outside.specs.Told.{Held, IsContent}
 use Rattle.tv_structure_form.specs.StructureForm.{StructureForm, IsOver, IsStructure}
 use Rattle.tv_tvs.specs.Meaning.{MeansStructs}
 use Rattle.tv_texts.specs.declared.structures.StructuresText.{StructuresText}
+
+-- a text that is read as one of structures of a valid program
+abbrev pub CanBeRead : Program → (text : List ℕ) → Type 0
+CanBeRead program text = IsValid (program_of program) × (length text ≤ longest_gathered)
 
 -- the tokens are those of the text, which means the structures over the program's vocabulary
 pub record AreRead (program : Program) (text : StructuresText) : Type 0 where

@@ -11,7 +11,7 @@ ghost use Rattle.tv_structure_form.specs.StructureForm.{IsOver};
 ghost use Rattle.tv_tvs.specs.Meaning.{MeansStructs};
 ghost use Rattle.tv_texts.specs.Files.{IsInitialFile, IsTextCause, ReadsFile};
 ghost use Rattle.tv_texts.specs.Meaning.{MeansInitial};
-ghost use Rattle.tv_texts.specs.Structures.{AreRead, IsStructuresText};
+ghost use Rattle.tv_texts.specs.Structures.{AreRead, CanBeRead, IsStructuresText};
 
 use crate::fault::{TextFault, fault_of_structures};
 use crate::files::read_file;
@@ -40,8 +40,7 @@ fn structures_by(
     bytes: &[u8],
     tokens: &Tokens,
 ) -> Result<Structures, TextFault>
-    requires valid { IsValid (program_of program.now) }
-    requires size { length bytes.now ≤ longest_gathered }
+    requires text { CanBeRead program.now bytes.now }
     requires tokens { Reads bytes.now (Ok tokens.now.list.items) }
     ensures means { IfOk result (λ ss. MeansStructs program.now.vocab
         (spec_tokens bytes.now tokens.now.list.items) (Ok ss)) }

@@ -2,7 +2,6 @@
 
 ghost use Rattle.std.specs.Prelude.{◌≡◌, ◌≤◌, ◌<◌, ◌^◌, [], ◌∷◌, All, None, Ok, Err, length, IfOk, IfErr};
 ghost use Rattle.tv_lex.specs.Bytes.{longest_text};
-ghost use Rattle.tv_lex.specs.Gather.{longest_gathered};
 ghost use Rattle.tv_lex.specs.Pieces.{Reads, AreInOrder};
 ghost use Rattle.tv_listing.specs.Listed.{IsListing};
 ghost use Rattle.tv_model.specs.Program.{program_of};
@@ -13,7 +12,7 @@ ghost use Rattle.tv_structure_form.specs.StructureForm.{IsOver, IsStructure};
 ghost use Rattle.tv_texts.specs.Files.{IsTextCause};
 ghost use Rattle.tv_texts.specs.Meaning.{IsUnlexed, AreOneHeap, MeansProgram, MeansInitial, MeansStart};
 ghost use Rattle.tv_texts.specs.Meaning.{MeansMoves, MeansReport};
-ghost use Rattle.tv_texts.specs.Structures.{AreInitial};
+ghost use Rattle.tv_texts.specs.Structures.{AreInitial, CanBeRead};
 ghost use Rattle.tv_texts.specs.declared.fault.TextFault.TheVariants.{Refused};
 ghost use Rattle.tv_trace.specs.Meaning.{IsTraceOn};
 ghost use Rattle.tv_two_valued.specs.TwoValued.{IsTwoValued};
@@ -70,8 +69,7 @@ fn structures_in(
     bytes: &[u8],
     role: Role,
 ) -> Result<Structures, TextFault>
-    requires valid { IsValid (program_of program.now) }
-    requires size { length bytes.now ≤ longest_gathered }
+    requires text { CanBeRead program.now bytes.now }
     ensures means { IfOk result (λ ss. MeansInitial program.now bytes.now (Ok ss)) }
     ensures over { IfOk result (All (λ s. IsOver program.now.vocab s × (s.fresh ≡ None))) }
     ensures kept { IfOk result (All IsStructure) }
@@ -92,8 +90,7 @@ fn structures_in(
 /// It is refused where it means none; or memory ran out.
 #[tactic(auto, using(crate::proofs::Counts::all_over))]
 pub fn initial_in(alloc: Global, program: &Program, bytes: &[u8]) -> Result<Structures, TextFault>
-    requires valid { IsValid (program_of program.now) }
-    requires size { length bytes.now ≤ longest_gathered }
+    requires text { CanBeRead program.now bytes.now }
     ensures means { IfOk result (λ ss. MeansInitial program.now bytes.now (Ok ss)) }
     ensures are { IfOk result (AreInitial program.now.vocab) }
     ensures cause { IfErr result (IsTextCause role.Initial (λ kind. MeansInitial program.now bytes.now
@@ -128,8 +125,7 @@ pub(crate) fn start_in(
     program: &Program,
     bytes: &[u8],
 ) -> Result<Structure, TextFault>
-    requires valid { IsValid (program_of program.now) }
-    requires size { length bytes.now ≤ longest_gathered }
+    requires text { CanBeRead program.now bytes.now }
     ensures means { IfOk result (λ s. MeansStart program.now bytes.now (Ok s)) }
     ensures over { IfOk result (λ s. IsOver program.now.vocab s × (s.fresh ≡ None)) }
     ensures heap { IfOk result IsTwoValued }
@@ -146,8 +142,7 @@ pub(crate) fn start_in(
 /// It is refused where it is none; or memory ran out.
 #[tactic(auto, using(crate::proofs::Refusals::trace_unlexed, crate::proofs::Refusals::trace_refused))]
 pub(crate) fn trace_in(alloc: Global, program: &Program, bytes: &[u8]) -> Result<Trace, TextFault>
-    requires valid { IsValid (program_of program.now) }
-    requires size { length bytes.now ≤ longest_gathered }
+    requires text { CanBeRead program.now bytes.now }
     ensures means { IfOk result (λ t. MeansMoves program.now bytes.now (Ok t)) }
     ensures kept { IfOk result (IsTraceOn program.now) }
     ensures cause { IfErr result

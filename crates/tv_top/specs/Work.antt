@@ -4,6 +4,7 @@ use Rattle.std.specs.Prelude.{All}
 use Rattle.tv_delta.specs.Answers.{HasRuns}
 use Rattle.tv_delta_laws.specs.Differences.{IsDifferenced}
 use Rattle.tv_judge.specs.Judged.{IsRejection, StopsAt}
+use Rattle.tv_listing.specs.Listed.{IsListing}
 use Rattle.tv_listing.specs.declared.analysis.Analysis.{Analysis}
 use Rattle.tv_model.specs.Program.{program_of}
 use Rattle.tv_model.specs.Valid.{IsValid}
@@ -98,6 +99,14 @@ pub record AreReadyInputs (inputs : Inputs) : Type 0 where
   pub over : All (IsOver inputs.program.vocab) inputs.initial
   pub kept : All IsStructure inputs.initial
   pub few : length inputs.initial < 2 ^ 32
+
+-- and it may list so many structures
+abbrev pub CanSearch : Inputs → (max : ℕ) → Type 0
+CanSearch inputs max = AreReadyInputs inputs × (max ≤ 100000)
+
+-- and this is a report on it
+abbrev pub CanBeJudged : Inputs → Analysis → Type 0
+CanBeJudged inputs report = AreReadyInputs inputs × IsListing inputs.program report.listing
 
 -- why an analysis finds nothing
 abbrev pub IsSearchCause : Task → (max : ℕ) → Fault → Type 0

@@ -34,7 +34,7 @@ program_in-requires c =
     let short : length (program_text c.args.number) ≤ 67108864 = omega (arith, program_short c.args.number c.requires.most) in
     rw program short
 
-pub initial_in-requires-clause-size : goal.initial_in-requires-clause-size
-initial_in-requires-clause-size c =
+pub initial_in-requires : goal.initial_in-requires
+initial_in-requires c =
     let lists : c.deref-2.result.now ≡ lists_text = c.deref-2.ensures.value ∙ c.in_ok-texts.ensures.initial in
-    rw lists lists_short
+    (c.in_ok-program.ensures.valid, rw lists lists_short)
