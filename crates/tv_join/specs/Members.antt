@@ -5,7 +5,7 @@ use Rattle.std.specs.Map.{lookup}
 use Rattle.std.specs.Ordering.{is_eq}
 use Rattle.tv_struct.specs.Order.{structure_cmp}
 use Rattle.tv_structure_form.specs.StructureForm.{StructureForm, IsStructure}
-use Rattle.tv_join.specs.Keyed.{SameKey, IsSkeleton}
+use Rattle.tv_join.specs.Keyed.{AreFlags, SameKey, IsSkeleton}
 use Rattle.tv_join.specs.Pairwise.{IsJoined}
 use Rattle.tv_join.specs.declared.members.Put.{Put}
 use Rattle.tv_join.specs.declared.members.Put.TheVariants.{Known, Raised, Added}
@@ -27,6 +27,10 @@ pub record IsIndexed (counted : List Bool) (m : MembersForm) : Type 0 where
       → place_in m.places q ≡ Some i
   pub only : (i : ℕ) (r q : StructureForm) → IsSkeleton counted r q → place_in m.places q ≡ Some i
       → (t : StructureForm) × (slice_get m.structures i ≡ Some t) × SameKey counted r t
+
+-- s can be put among them, by these flags
+abbrev pub CanPut : (counted : List Bool) → StructureForm → MembersForm → Type 0
+CanPut counted s m = AreFlags counted s × (s.fresh ≡ None) × IsIndexed counted m
 
 -- s is put into a structure of its key and changes nothing
 pub record IsKnown (counted : List Bool) (old : List StructureForm) (s : StructureForm)

@@ -5,6 +5,10 @@ use Rattle.tv_structure_form.specs.TableForm.{HasEntry}
 use Rattle.tv_structure_form.specs.StructureForm.{StructureForm, IsStructure, arities_of, table_of, value_at}
 use Rattle.tv_structure_form.specs.StructureForm.{summary_at}
 
+-- they have the same individuals and predicates
+abbrev pub HaveOneShape : (s t : StructureForm) → Type 0
+HaveOneShape s t = (s.size ≡ t.size) × (arities_of s ≡ arities_of t)
+
 -- s lies under t: each value under that of t, and each summary is one in t
 pub record IsUnder (s t : StructureForm) : Type 0 where
   pub size : s.size ≡ t.size

@@ -3,7 +3,8 @@ use Rattle.std.specs.Prelude.{ℕ, ◌≡◌, ◌≢◌, ◌<◌, ◌≤◌, ◌
 use Rattle.tv_kleene.specs.declared.K3.{K3}
 use Rattle.tv_kleene.specs.Kleene.{larger_of}
 use Rattle.tv_model.specs.declared.program.Edge.{Edge}
-use Rattle.tv_model.specs.Program.{ProgramForm}
+use Rattle.tv_model.specs.Program.{ProgramForm, program_of}
+use Rattle.tv_model.specs.Valid.{IsValid}
 use Rattle.tv_structure_form.specs.StructureForm.{StructureForm}
 use Rattle.tv_step_laws.specs.Budgets.{KeepsBudgets, MeetsSplits, MeetsIndividuals}
 use Rattle.tv_step.specs.Setting.{IsStableIn}
@@ -14,7 +15,8 @@ use Rattle.tv_work.specs.Analyzed.{KeepAllBudgets, Meets}
 use Rattle.tv_work.specs.Explored.{AreSaid}
 use Rattle.tv_work.specs.Leaving.{LeavesBy}
 use Rattle.tv_work.specs.Reach.{Point, IsStartPoint}
-use Rattle.tv_work.specs.Task.{TaskForm}
+use Rattle.tv_work.specs.Task.{TaskForm, task_of}
+use Rattle.tv_work.specs.declared.task.Task.{Task}
 use Rattle.tv_work.specs.Told.{told_value}
 use Rattle.tv_listing.specs.ListingForm.{at_node}
 use Rattle.tv_join.specs.Flags.{IsPlain}
@@ -120,6 +122,12 @@ abbrev pub HaveBeenFollowed : TaskForm → JoinsForm → (A : Point → Type 0) 
 HaveBeenFollowed t j A values = (w : Place) → Contains j.changed w ⊎ IsFollowedFrom t j.nodes A values w
 
 -- ---- the values of messages are told
+
+-- all that the task lists was followed, so that the values which are kept can be told
+abbrev pub CanBeTold : Task → JoinsForm → (values : List (List (List K3))) → Type 0
+CanBeTold x joins values = IsValid (program_of x.program.now) × IsJoinState (task_of x) joins
+    × (length values ≡ length x.program.now.edges)
+    × AreAllFollowed (task_of x) joins.nodes (IsAbsorbed (program_of x.program.now) joins.nodes) values
 
 -- no value falls
 abbrev pub Tells : (old new : List (List K3)) → Type 0

@@ -6,6 +6,7 @@ ghost use Rattle.tv_blur.specs.Classes.{ChangesOnly};
 ghost use Rattle.tv_structure_form.specs.StructureForm.{arities_of, value_at};
 ghost use Rattle.tv_struct.specs.StructureRows.{HasArity};
 ghost use Rattle.tv_join.specs.Keyed.{AreFlags, HasCopied, IsSkeleton};
+ghost use Rattle.tv_join.specs.Pairwise.{HaveOneShape};
 
 use std::alloc::{AllocError, Global};
 use tv_model::PredId;
@@ -42,8 +43,7 @@ fn copy_next(t: &mut Structure, s: &Structure, counted: &[bool], p: u32)
 
 /// Puts the values of the predicate in `s` into `t`, where it is `No` everywhere.
 fn copy_values(t: &mut Structure, s: &Structure, p: PredId)
-    requires size { t.old.size ≡ s.now.size }
-    requires over { arities_of t.old ≡ arities_of s.now }
+    requires like { HaveOneShape t.old s.now }
     requires pred { p.0 < length (arities_of s.now) }
     requires small { ¬ HasArity s.now p.0 2 }
     requires blank { (tuple : List ℕ) → value_at t.old p.0 tuple ≡ No }
@@ -57,8 +57,7 @@ fn copy_values(t: &mut Structure, s: &Structure, p: PredId)
 }
 
 fn copy_value(t: &mut Structure, s: &Structure, p: PredId)
-    requires size { t.old.size ≡ s.now.size }
-    requires over { arities_of t.old ≡ arities_of s.now }
+    requires like { HaveOneShape t.old s.now }
     requires arity { HasArity s.now p.0 0 }
     ensures changes { ChangesOnly p.0 t.old t.new }
     ensures values { (tuple : List ℕ) → value_at s.now p.0 tuple ≡ value_at t.new p.0 tuple }
@@ -71,8 +70,7 @@ fn copy_value(t: &mut Structure, s: &Structure, p: PredId)
 /// Copies the values of a unary predicate. Nothing has to be put where it is `No` everywhere, as most are in
 /// a program of many variables.
 fn copy_row(t: &mut Structure, s: &Structure, p: PredId)
-    requires size { t.old.size ≡ s.now.size }
-    requires over { arities_of t.old ≡ arities_of s.now }
+    requires like { HaveOneShape t.old s.now }
     requires arity { HasArity s.now p.0 1 }
     requires blank { (tuple : List ℕ) → value_at t.old p.0 tuple ≡ No }
     ensures changes { ChangesOnly p.0 t.old t.new }

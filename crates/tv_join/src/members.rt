@@ -4,8 +4,8 @@ ghost use Rattle.std.specs.Prelude.{◌≡◌, [], Bool, List, Some, None, IfOk,
 ghost use Rattle.std.specs.Prelude.{length};
 ghost use Rattle.std.specs.Prelude.{slice_get};
 ghost use Rattle.tv_structure_form.specs.StructureForm.{StructureForm, IsStructure, arities_of, unmarked};
-ghost use Rattle.tv_join.specs.Keyed.{AreFlags, SameKey, IsSkeleton};
-ghost use Rattle.tv_join.specs.Members.{MembersForm, place_in, IsIndexed, Puts, IsAdded};
+ghost use Rattle.tv_join.specs.Keyed.{SameKey, IsSkeleton};
+ghost use Rattle.tv_join.specs.Members.{MembersForm, place_in, CanPut, IsIndexed, Puts, IsAdded};
 
 use crate::key::skeleton;
 use crate::pairwise::join_into;
@@ -75,9 +75,7 @@ impl Members {
     /// Lack of memory. Then the structures are as they were, but of the places that are noted nothing is
     /// said, so that no more may be put here.
     pub fn put(&mut self, alloc: Global, counted: &[bool], s: Structure) -> Result<Put, AllocError>
-        requires flags { AreFlags counted.now s }
-        requires unmarked { s.fresh ≡ None }
-        requires indexed { IsIndexed counted.now self.old }
+        requires can { CanPut counted.now s self.old }
         ensures puts { IfOk result (Puts counted.now self.old.structures s self.new.structures) }
         ensures indexed { OnOk result (IsIndexed counted.now self.new) }
         ensures kept { OnErr result (self.new.structures ≡ self.old.structures) }
@@ -104,9 +102,7 @@ impl Members {
 
     /// Joins the structure into that at the place, which has its key.
     fn join_at(&mut self, counted: &[bool], place: usize, s: Structure) -> Put
-        requires flags { AreFlags counted.now s }
-        requires unmarked { s.fresh ≡ None }
-        requires indexed { IsIndexed counted.now self.old }
+        requires can { CanPut counted.now s self.old }
         requires key { (t : StructureForm) × (slice_get self.old.structures place ≡ Some t)
             × SameKey counted.now s t }
         ensures puts { Puts counted.now self.old.structures s self.new.structures result }

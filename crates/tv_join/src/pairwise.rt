@@ -5,7 +5,7 @@ ghost use Rattle.tv_blur.specs.Classes.{ChangesOnly};
 ghost use Rattle.tv_structure_form.specs.StructureForm.{arities_of, summary_at, value_at, IsStructure};
 ghost use Rattle.tv_struct.specs.StructureRows.{HasArity};
 ghost use Rattle.tv_join.specs.Keyed.{Counts};
-ghost use Rattle.tv_join.specs.Pairwise.{IsJoined, HasJoinedValues, HasJoinedSummaries};
+ghost use Rattle.tv_join.specs.Pairwise.{HaveOneShape, IsJoined, HasJoinedValues, HasJoinedSummaries};
 
 use tv_model::PredId;
 use tv_struct::{Structure, Tuple};
@@ -13,8 +13,7 @@ use tv_struct::{Structure, Tuple};
 /// Joins `t` into `s`, which has the same key: each value becomes the join of both, and an individual is a
 /// summary where it is one in either.
 pub fn join_into(s: &mut Structure, t: &Structure, counted: &[bool])
-    requires size { s.old.size ≡ t.now.size }
-    requires over { arities_of s.old ≡ arities_of t.now }
+    requires like { HaveOneShape s.old t.now }
     requires unmarked { s.old.fresh ≡ None }
     requires flags { length counted.now ≡ length (arities_of t.now) }
     requires same { (pred : ℕ) → Counts counted.now pred → (tuple : List ℕ)
@@ -31,8 +30,7 @@ pub fn join_into(s: &mut Structure, t: &Structure, counted: &[bool])
 
 /// Joins the values of the next predicate, unless it counts for keys: then both have the same.
 fn join_next(s: &mut Structure, t: &Structure, counted: &[bool], p: u32)
-    requires size { s.old.size ≡ t.now.size }
-    requires over { arities_of s.old ≡ arities_of t.now }
+    requires like { HaveOneShape s.old t.now }
     requires flags { length counted.now ≡ length (arities_of t.now) }
     requires pred { p < length (arities_of t.now) }
     requires same { Counts counted.now p → (tuple : List ℕ)
@@ -71,8 +69,7 @@ fn is_summary(s: &Structure, t: &Structure, u: u32) -> bool
 }
 
 fn join_values(s: &mut Structure, t: &Structure, p: PredId)
-    requires size { s.old.size ≡ t.now.size }
-    requires over { arities_of s.old ≡ arities_of t.now }
+    requires like { HaveOneShape s.old t.now }
     requires pred { p.0 < length (arities_of t.now) }
     ensures changes { ChangesOnly p.0 s.old s.new }
     ensures values { HasJoinedValues p.0 s.old t.now s.new }
@@ -96,8 +93,7 @@ fn join_value(s: &mut Structure, t: &Structure, p: PredId)
 }
 
 fn join_row(s: &mut Structure, t: &Structure, p: PredId)
-    requires size { s.old.size ≡ t.now.size }
-    requires over { arities_of s.old ≡ arities_of t.now }
+    requires like { HaveOneShape s.old t.now }
     requires arity { HasArity t.now p.0 1 }
     ensures changes { ChangesOnly p.0 s.old s.new }
     ensures values { HasJoinedValues p.0 s.old t.now s.new }
@@ -109,8 +105,7 @@ fn join_row(s: &mut Structure, t: &Structure, p: PredId)
 }
 
 fn join_rows(s: &mut Structure, t: &Structure, p: PredId)
-    requires size { s.old.size ≡ t.now.size }
-    requires over { arities_of s.old ≡ arities_of t.now }
+    requires like { HaveOneShape s.old t.now }
     requires arity { HasArity t.now p.0 2 }
     ensures changes { ChangesOnly p.0 s.old s.new }
     ensures values { HasJoinedValues p.0 s.old t.now s.new }

@@ -2,11 +2,9 @@
 
 ghost use Rattle.std.specs.Prelude.{◌≡◌, IfOk, IfErr, OnOk, List, length};
 ghost use Rattle.tv_kleene.specs.declared.K3.{K3};
-ghost use Rattle.tv_model.specs.Program.{program_of};
-ghost use Rattle.tv_work.specs.Task.{task_of, IsReady};
-ghost use Rattle.tv_join.specs.Flags.{key_flags};
+ghost use Rattle.tv_work.specs.Task.{task_of};
 ghost use Rattle.tv_join.specs.Stepped.{IsAtSomeRound, IsAtLastRound, IsRoundOn};
-ghost use Rattle.tv_join.specs.Task.{IsRoundsCause};
+ghost use Rattle.tv_join.specs.Task.{IsReadyWithKeys, IsRoundsCause};
 
 use crate::follow::{follow_all, openings};
 use crate::joins::Joins;
@@ -25,8 +23,7 @@ pub(crate) struct Ended {
 
 /// What the first round lists; none of it was followed.
 fn start(x: &KeyedTask, stepper: &mut Stepper) -> Result<Joins, WorkError>
-    requires ready { IsReady x.now.task stepper.old }
-    requires counted { x.now.counted.now ≡ key_flags (program_of x.now.task.program.now) }
+    requires ready { IsReadyWithKeys x.now stepper.old }
     ensures at { IfOk result (λ joins. (values : List (List (List K3)))
         → IsAtSomeRound (task_of x.now.task) joins values) }
     ensures cause { IfErr result (IsRoundsCause (task_of x.now.task)) }
@@ -46,8 +43,7 @@ fn round(
     joins: &mut Joins,
     values: &mut MessageValues,
 ) -> Result<(), WorkError>
-    requires ready { IsReady x.now.task stepper.old }
-    requires counted { x.now.counted.now ≡ key_flags (program_of x.now.task.program.now) }
+    requires ready { IsReadyWithKeys x.now stepper.old }
     requires edges { length values.old ≡ length x.now.task.program.now.edges }
     requires at { IsAtSomeRound (task_of x.now.task) joins.old values.old }
     ensures on { OnOk result (IsRoundOn (task_of x.now.task) joins.old joins.new values.new) }
@@ -64,8 +60,7 @@ fn round(
 /// Goes on while anything changes. Each such round lists more, or structures that say less, and of both there
 /// is an end.
 pub(crate) fn all_rounds(x: &KeyedTask, stepper: &mut Stepper) -> Result<Ended, WorkError>
-    requires ready { IsReady x.now.task stepper.old }
-    requires counted { x.now.counted.now ≡ key_flags (program_of x.now.task.program.now) }
+    requires ready { IsReadyWithKeys x.now stepper.old }
     ensures last { IfOk result (λ ended. IsAtLastRound (task_of x.now.task) ended.joins ended.told) }
     ensures cause { IfErr result (IsRoundsCause (task_of x.now.task)) }
 {

@@ -2,11 +2,10 @@
 
 ghost use Rattle.std.specs.Prelude.{◌≡◌, ◌<◌, ◌≤◌, IfOk, OnOk, length};
 ghost use Rattle.tv_model.specs.Program.{program_of};
-ghost use Rattle.tv_model.specs.Valid.{IsValid};
 ghost use Rattle.tv_work.specs.Explored.{AreSaid};
 ghost use Rattle.tv_work.specs.Told.{IsNoted};
-ghost use Rattle.tv_join.specs.State.{IsAbsorbed, IsJoinState, listing_of};
-ghost use Rattle.tv_join.specs.Stepped.{AreAllFollowed, AreStepped, IsToldAlong, Tells};
+ghost use Rattle.tv_join.specs.State.{IsAbsorbed, listing_of};
+ghost use Rattle.tv_join.specs.Stepped.{AreStepped, CanBeTold, IsToldAlong, Tells};
 ghost use Rattle.tv_work.specs.Task.{task_of};
 ghost use Rattle.tv_join.specs.Values.{values_at};
 
@@ -18,12 +17,7 @@ use tv_work::{Task, Told};
 /// For each edge the greatest values of its messages at the structures that are listed at its source, each of
 /// which was followed.
 pub(crate) fn tell_all(x: &Task, joins: &Joins, values: &MessageValues) -> Result<Told, AllocError>
-    requires valid { IsValid (program_of x.now.program.now) }
-    requires kept { IsJoinState (task_of x.now) joins.now }
-    requires edges { length values.now ≡ length x.now.program.now.edges }
-    requires followed { AreAllFollowed (task_of x.now) joins.now.nodes
-        (IsAbsorbed (program_of x.now.program.now) joins.now.nodes)
-        values.now }
+    requires followed { CanBeTold x.now joins.now values.now }
     ensures { IfOk result (AreStepped (task_of x.now) joins.now.nodes
         (IsAbsorbed (program_of x.now.program.now) joins.now.nodes)) }
 {
@@ -43,13 +37,8 @@ fn tell_edge(
     edge: u32,
     told: &mut Told,
 ) -> Result<(), AllocError>
-    requires valid { IsValid (program_of x.now.program.now) }
-    requires kept { IsJoinState (task_of x.now) joins.now }
+    requires followed { CanBeTold x.now joins.now values.now }
     requires edge { edge < length x.now.program.now.edges }
-    requires edges { length values.now ≡ length x.now.program.now.edges }
-    requires followed { AreAllFollowed (task_of x.now) joins.now.nodes
-        (IsAbsorbed (program_of x.now.program.now) joins.now.nodes)
-        values.now }
     requires said { AreSaid (task_of x.now) (listing_of joins.now.nodes) told.old }
     ensures said { OnOk result (AreSaid (task_of x.now) (listing_of joins.now.nodes) told.new) }
     ensures tells { OnOk result (Tells told.old told.new) }

@@ -13,7 +13,7 @@ ghost use Rattle.tv_step_laws.specs.Transfer.{HasNoOpening, IsOpening};
 ghost use Rattle.tv_judge.specs.Found.{IsStableIn, IsTestedTo};
 ghost use Rattle.tv_judge.specs.Progress.{AreResultsAt, AreSaidBelow, AreValuesAt, IsDone, IsFirstUnsaid};
 ghost use Rattle.tv_judge.specs.Progress.{IsStop};
-ghost use Rattle.tv_judge.specs.Setting.{IsReadyToJudge, case_in};
+ghost use Rattle.tv_judge.specs.Setting.{CanStep, IsReadyToJudge, case_in};
 ghost use Rattle.tv_step.specs.StepAnswer.{AnswersStep};
 
 use crate::found::Found;
@@ -40,9 +40,8 @@ fn opening_of(
     s: &Structure,
     stepper: &mut Stepper,
 ) -> Result<Option<Structure>, AllocError>
-    requires ready { IsReadyToJudge x.now }
+    requires ready { CanStep x.now stepper.old }
     requires over { IsOver x.now.program.now.vocab s.now }
-    requires stepper { stepper.old ≡ record { program = x.now.program.now; mode = x.now.mode } }
     ensures some { IfOk result (λ found. IfSome found (IsOpening (program_of x.now.program.now) s.now)) }
     ensures none { IfOk result (λ found. IfNone found (HasNoOpening (program_of x.now.program.now) s.now)) }
     ensures settled { IfOk result (λ found. IfSome found (IsSettled (program_of x.now.program.now))) }
@@ -58,9 +57,8 @@ fn test_opening(
     stepper: &mut Stepper,
     found: &mut Found,
 ) -> Result<(), Stop>
-    requires ready { IsReadyToJudge x.now }
+    requires ready { CanStep x.now stepper.old }
     requires number { number < length x.now.initial.now }
-    requires stepper { stepper.old ≡ record { program = x.now.program.now; mode = x.now.mode } }
     requires so_far { IsTestedTo (case_in x.now) x.now.asked (0 ∷ number ∷ []) found.old }
     ensures next { OnOk result (IsTestedTo (case_in x.now) x.now.asked (0 ∷ (number + 1) ∷ []) found.new) }
     ensures stop { IfErr result (IsStop (case_in x.now)) }
@@ -75,8 +73,7 @@ fn test_opening(
 
 /// Tests the openings of all initial structures.
 fn test_openings(x: &Setting, stepper: &mut Stepper, found: &mut Found) -> Result<(), Stop>
-    requires ready { IsReadyToJudge x.now }
-    requires stepper { stepper.old ≡ record { program = x.now.program.now; mode = x.now.mode } }
+    requires ready { CanStep x.now stepper.old }
     requires so_far { IsTestedTo (case_in x.now) x.now.asked (0 ∷ 0 ∷ []) found.old }
     ensures next { OnOk result (IsTestedTo (case_in x.now) x.now.asked (1 ∷ 0 ∷ []) found.new) }
     ensures stop { IfErr result (IsStop (case_in x.now)) }
@@ -159,11 +156,10 @@ fn step_of(
     is_stable: bool,
     stepper: &mut Stepper,
 ) -> Result<StepOut, StageError>
-    requires ready { IsReadyToJudge x.now }
+    requires ready { CanStep x.now stepper.old }
     requires edge { edge < length x.now.program.now.edges }
     requires over { IsOver x.now.program.now.vocab from.now }
     requires stable { IsTrue is_stable → IsStableIn (case_in x.now) from.now }
-    requires stepper { stepper.old ≡ record { program = x.now.program.now; mode = x.now.mode } }
     ensures step { AnswersStep (program_of x.now.program.now) x.now.mode edge from.now result }
     ensures same { stepper.new ≡ stepper.old }
 {
@@ -179,10 +175,9 @@ fn test_step(
     stepper: &mut Stepper,
     found: &mut Found,
 ) -> Result<(), Stop>
-    requires ready { IsReadyToJudge x.now }
+    requires ready { CanStep x.now stepper.old }
     requires edge { slice_get x.now.program.now.edges edge ≡ Some taken }
     requires structure { structure < length (at_node x.now.analysis.now.listing taken.from) }
-    requires stepper { stepper.old ≡ record { program = x.now.program.now; mode = x.now.mode } }
     requires so_far { IsTestedTo (case_in x.now) x.now.asked (1 ∷ edge ∷ structure ∷ []) found.old }
     ensures next { OnOk result
         (IsTestedTo (case_in x.now) x.now.asked (1 ∷ edge ∷ (structure + 1) ∷ []) found.new) }
@@ -214,9 +209,8 @@ fn edge_at(program: &Program, edge: u32) -> Edge
 
 /// Tests the steps of all listed structures along the edge.
 fn test_edge(x: &Setting, edge: u32, stepper: &mut Stepper, found: &mut Found) -> Result<(), Stop>
-    requires ready { IsReadyToJudge x.now }
+    requires ready { CanStep x.now stepper.old }
     requires edge { edge < length x.now.program.now.edges }
-    requires stepper { stepper.old ≡ record { program = x.now.program.now; mode = x.now.mode } }
     requires so_far { IsTestedTo (case_in x.now) x.now.asked (1 ∷ edge ∷ []) found.old }
     ensures next { OnOk result (IsTestedTo (case_in x.now) x.now.asked (1 ∷ (edge + 1) ∷ []) found.new) }
     ensures stop { IfErr result (IsStop (case_in x.now)) }
@@ -231,8 +225,7 @@ fn test_edge(x: &Setting, edge: u32, stepper: &mut Stepper, found: &mut Found) -
 
 /// Tests all demands in order, and gives the lines of all items, where they are asked for.
 pub fn test_report(x: &Setting, stepper: &mut Stepper) -> Result<MapLines, Stop>
-    requires ready { IsReadyToJudge x.now }
-    requires stepper { stepper.old ≡ record { program = x.now.program.now; mode = x.now.mode } }
+    requires ready { CanStep x.now stepper.old }
     ensures done { IfOk result (IsDone (case_in x.now) x.now.asked) }
     ensures stop { IfErr result (IsStop (case_in x.now)) }
 {

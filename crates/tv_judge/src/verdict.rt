@@ -1,12 +1,9 @@
 //! Verdicts on reports.
 
-ghost use Rattle.std.specs.Prelude.{◌<◌, ◌^◌, All, length, IfOk, IfErr, IfSome, IfNone};
-ghost use Rattle.tv_listing.specs.Listed.{IsListing};
-ghost use Rattle.tv_model.specs.Program.{program_of};
-ghost use Rattle.tv_model.specs.Valid.{IsValid};
-ghost use Rattle.tv_structure_form.specs.StructureForm.{IsOver};
+ghost use Rattle.std.specs.Prelude.{IfOk, IfErr, IfSome, IfNone};
 ghost use Rattle.tv_judge.specs.Judged.{IsJudgeCause, IsRejection};
 ghost use Rattle.tv_judge.specs.Progress.{IsDone, IsStop};
+ghost use Rattle.tv_judge.specs.Setting.{IsReportOn};
 ghost use Rattle.tv_judge.specs.Verdicts.{case_of, IsAcceptable, IsVerdict, OnceAccepted, IsSound};
 
 use crate::index::{lines_by_item, places_by_signature, said_in};
@@ -36,10 +33,7 @@ fn tested<'a>(
     mode: Mode,
     asked: bool,
 ) -> Result<MapLines, Stop>
-    requires valid { IsValid (program_of program.now) }
-    requires initial { All (IsOver program.now.vocab) initial.now }
-    requires few { length initial.now < 2 ^ 32 }
-    requires listing { IsListing program.now analysis.now.listing }
+    requires case { IsReportOn program.now initial.now analysis.now }
     ensures done { IfOk result (IsDone (case_of program.now mode initial.now analysis.now) asked) }
     ensures stop { IfErr result (IsStop (case_of program.now mode initial.now analysis.now)) }
 {
@@ -74,10 +68,7 @@ pub fn judge(
     analysis: &Analysis,
     mode: Mode,
 ) -> Result<Verdict, StageError>
-    requires valid { IsValid (program_of program.now) }
-    requires initial { All (IsOver program.now.vocab) initial.now }
-    requires few { length initial.now < 2 ^ 32 }
-    requires listing { IsListing program.now analysis.now.listing }
+    requires case { IsReportOn program.now initial.now analysis.now }
     ensures verdict { IfOk result (IsVerdict (case_of program.now mode initial.now analysis.now)) }
     ensures sound { IfOk result (OnceAccepted (IsSound (case_of program.now mode initial.now analysis.now))) }
     ensures cause { IfErr result (IsJudgeCause (case_of program.now mode initial.now analysis.now)) }
@@ -99,10 +90,7 @@ pub fn first_unmet(
     analysis: &Analysis,
     mode: Mode,
 ) -> Result<Option<Rejection>, StageError>
-    requires valid { IsValid (program_of program.now) }
-    requires initial { All (IsOver program.now.vocab) initial.now }
-    requires few { length initial.now < 2 ^ 32 }
-    requires listing { IsListing program.now analysis.now.listing }
+    requires case { IsReportOn program.now initial.now analysis.now }
     ensures some { IfOk result
         (λ found. IfSome found (IsRejection (case_of program.now mode initial.now analysis.now))) }
     ensures none { IfOk result

@@ -27,20 +27,21 @@ loop-stepper-smaller c =
     (subst (λ b. MatchBool b (c.loop-stepper.joins.changed ≢ []) (c.loop-stepper.joins.changed ≡ []))
     c.loop-stepper-test.true c.has_changed.ensures)
 
-pub tell_all-requires-clause-kept : goal.tell_all-requires-clause-kept
-tell_all-requires-clause-kept c = c.loop-stepper.invariant.at.at.kept
-
-pub tell_all-requires-clause-followed : goal.tell_all-requires-clause-followed
-tell_all-requires-clause-followed c =
-    none-changed (task_of c.args.x.now.task) c.loop-stepper.joins
-    (IsAbsorbed (program_of c.args.x.now.task.program.now) c.loop-stepper.joins.nodes) c.loop-stepper.values
-    c.loop-stepper.invariant.at.followed
-    (subst (λ b. MatchBool b (c.loop-stepper.joins.changed ≢ []) (c.loop-stepper.joins.changed ≡ []))
-    c.loop-stepper-test.false c.has_changed.ensures)
+pub tell_all-requires : goal.tell_all-requires
+tell_all-requires c = (
+  c.requires.ready.0.valid,
+  c.loop-stepper.invariant.at.at.kept,
+  c.loop-stepper.invariant.edges,
+  none-changed (task_of c.args.x.now.task) c.loop-stepper.joins
+      (IsAbsorbed (program_of c.args.x.now.task.program.now) c.loop-stepper.joins.nodes) c.loop-stepper.values
+      c.loop-stepper.invariant.at.followed
+      (subst (λ b. MatchBool b (c.loop-stepper.joins.changed ≢ []) (c.loop-stepper.joins.changed ≡ []))
+      c.loop-stepper-test.false c.has_changed.ensures),
+)
 
 pub returns-clause-last : goal.returns-clause-last
 returns-clause-last c =
-    last-round (task_of c.args.x.now.task) c.requires.ready.valid c.loop-stepper.invariant.at.round
+    last-round (task_of c.args.x.now.task) c.requires.ready.0.valid c.loop-stepper.invariant.at.round
     c.loop-stepper.joins c.loop-stepper.values
     c.loop-stepper.invariant.at.at
     (none-changed (task_of c.args.x.now.task) c.loop-stepper.joins

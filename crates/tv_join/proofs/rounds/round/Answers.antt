@@ -52,7 +52,7 @@ returns-in_err-meet_all-clause-cause c =
     in let g : GatheredForm = record { found = c.in_ok-found.found.items; values = c.follow_all.new.values }
     in let p = err_from_is_err_and c.from_residual-in_err-meet_all.result c.from_residual-in_err-meet_all.ensures.1
     in rw (p.1, p.2)
-    (on-cause t c.requires.ready.valid old middle c.meet_all.new.self c.in_ok-found.found.items c.args.values.now
+    (on-cause t c.requires.ready.0.valid old middle c.meet_all.new.self c.in_ok-found.found.items c.args.values.now
     c.follow_all.new.values c.requires.at
     (taken-followed t old middle places c.take_changed-changed.ensures.taken c.take_changed-changed.ensures.left g
     c.args.values.now c.in_ok-found.ensures.followed)
@@ -66,7 +66,7 @@ returns-clause-on c =
     in let middle = c.take_changed-changed.new.self
     in let places = c.take_changed-changed.result
     in let g : GatheredForm = record { found = c.in_ok-found.found.items; values = c.follow_all.new.values }
-    in round-on t c.requires.ready.valid c.requires.at.round old middle c.meet_all.new.self c.in_ok-found.found.items
+    in round-on t c.requires.ready.0.valid c.requires.at.round old middle c.meet_all.new.self c.in_ok-found.found.items
     c.args.values.now c.follow_all.new.values c.requires.at.at c.requires.at.followed
     (taken-followed t old middle places c.take_changed-changed.ensures.taken c.take_changed-changed.ensures.left g
     c.args.values.now c.in_ok-found.ensures.followed)

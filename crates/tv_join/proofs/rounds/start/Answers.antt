@@ -15,21 +15,21 @@ meet_all-requires-clause-none c = ap (λ (j : JoinsForm). j.changed) c.in_ok-joi
 pub meet_all-requires-clause-placed : goal.meet_all-requires-clause-placed
 meet_all-requires-clause-placed c =
     placed-found (task_of c.args.x.now.task) c.in_ok-found.found.items
-    (starts-placed (task_of c.args.x.now.task) c.requires.ready.valid c.in_ok-found.found.items
+    (starts-placed (task_of c.args.x.now.task) c.requires.ready.0.valid c.in_ok-found.found.items
     c.in_ok-found.ensures.found)
 
 pub returns-in_err-meet_all-clause-cause : goal.returns-in_err-meet_all-clause-cause
 returns-in_err-meet_all-clause-cause c =
     let p = err_from_is_err_and c.from_residual-in_err-meet_all.result c.from_residual-in_err-meet_all.ensures.1
     in rw (p.1, p.2)
-    (start-cause (task_of c.args.x.now.task) c.requires.ready.valid c.len.result c.in_ok-joins.joins
+    (start-cause (task_of c.args.x.now.task) c.requires.ready.0.valid c.len.result c.in_ok-joins.joins
     c.meet_all.new.self
     c.in_ok-found.found.items c.in_ok-joins.ensures c.in_ok-found.ensures.found c.in_err-meet_all.field-0.0
     c.in_err-meet_all.ensures.cause)
 
 pub returns-clause-at : goal.returns-clause-at
 returns-clause-at c = λ values.
-    first-round (task_of c.args.x.now.task) c.requires.ready.valid c.len.result c.in_ok-joins.joins
+    first-round (task_of c.args.x.now.task) c.requires.ready.0.valid c.len.result c.in_ok-joins.joins
     c.meet_all.new.self
     c.in_ok-found.found.items c.in_ok-joins.ensures c.in_ok-found.ensures.found c.in_ok-meet_all.ensures.met
     c.in_ok-meet_all.ensures.within values

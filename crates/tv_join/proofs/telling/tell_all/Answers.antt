@@ -24,5 +24,5 @@ pub returns : goal.returns
 returns c =
     up-all (task_of c.args.x.now) c.args.joins.now.nodes
     (IsAbsorbed (program_of c.args.x.now.program.now) c.args.joins.now.nodes)
-    c.args.values.now c.requires.followed c.loop-edge.edge c.loop-edge.told c.loop-edge.invariant
+    c.args.values.now c.requires.followed.3 c.loop-edge.edge c.loop-edge.told c.loop-edge.invariant
     (omega (arith, c.loop-edge-test.false, c.len-count.ensures))

@@ -18,9 +18,9 @@ at_node-structures-requires c =
     in let at = slice_get-get_or edges c.args.edge no_edge c.requires.edge
     in omega (
       arith,
-      c.requires.kept.nodes,
+      c.requires.followed.1.nodes,
       source-is edges c.as_slice.result.now c.args.edge taken c.as_slice.ensures at,
-      (edge-valid (program_of c.args.x.now.program.now) c.requires.valid c.args.edge taken at).0,
+      (edge-valid (program_of c.args.x.now.program.now) c.requires.followed.0 c.args.edge taken at).0,
     )
 
 pub loop-place-init : goal.loop-place-init
@@ -30,7 +30,7 @@ pub tell-requires-clause-edge : goal.tell-requires-clause-edge
 tell-requires-clause-edge c = omega (arith, c.loop-place.invariant.said.edges, c.requires.edge)
 
 pub tell-requires-clause-edges : goal.tell-requires-clause-edges
-tell-requires-clause-edges c = c.requires.edges ∙ sym c.loop-place.invariant.said.edges
+tell-requires-clause-edges c = c.requires.followed.2 ∙ sym c.loop-place.invariant.said.edges
 
 pub tell-requires-clause-few : goal.tell-requires-clause-few
 tell-requires-clause-few c =
@@ -46,8 +46,8 @@ tell-requires-clause-few c =
     in let within : c.loop-place.place < length (members_at nodes taken.from).structures
     = omega (arith, c.loop-place-test.true, ap length same)
     in let s = there-stands nodes taken.from c.loop-place.place within
-    in kept-few t c.requires.valid nodes (IsAbsorbed (program_of c.args.x.now.program.now) nodes)
-    c.args.values.now c.requires.followed
+    in kept-few t c.requires.followed.0 nodes (IsAbsorbed (program_of c.args.x.now.program.now) nodes)
+    c.args.values.now c.requires.followed.3
     c.args.edge taken is c.loop-place.place s.0 s.1
 
 pub loop-place-preserved : goal.loop-place-preserved
@@ -64,8 +64,8 @@ loop-place-preserved c =
     in let within : c.loop-place.place < length (members_at nodes taken.from).structures
     = omega (arith, c.loop-place-test.true, ap length same)
     in let s = there-stands nodes taken.from c.loop-place.place within
-    in to-next t c.requires.valid nodes (IsAbsorbed (program_of c.args.x.now.program.now) nodes)
-    c.args.values.now c.requires.followed
+    in to-next t c.requires.followed.0 nodes (IsAbsorbed (program_of c.args.x.now.program.now) nodes)
+    c.args.values.now c.requires.followed.3
     c.args.edge taken is c.loop-place.place s.0 s.1 c.args.told.now c.loop-place.told c.tell.new.told
     c.loop-place.invariant
     c.in_ok-tell.ensures.noted c.in_ok-tell.ensures.count

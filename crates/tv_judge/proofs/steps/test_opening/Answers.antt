@@ -9,8 +9,8 @@ use Rattle.tv_judge.proofs.steps.test_opening.Goals as goal
 
 pub test_item-requires-clause-node : goal.test_item-requires-clause-node
 test_item-requires-clause-node c =
-    start-within c.args.x.now.program.now c.requires.ready.valid c.args.x.now.analysis.now.listing
-    c.requires.ready.listing
+    start-within c.args.x.now.program.now c.requires.ready.0.valid c.args.x.now.analysis.now.listing
+    c.requires.ready.0.listing
 
 pub test_item-requires-clause-there : goal.test_item-requires-clause-there
 test_item-requires-clause-there c = record {

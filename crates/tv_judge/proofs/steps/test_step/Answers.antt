@@ -30,8 +30,8 @@ test_results-requires-clause-stable c =
 
 pub test_results-requires-clause-node : goal.test_results-requires-clause-node
 test_results-requires-clause-node c =
-    (nodes-within c.args.x.now.program.now c.requires.ready.valid c.args.x.now.analysis.now.listing
-    c.requires.ready.listing c.args.edge c.args.taken c.requires.edge).1
+    (nodes-within c.args.x.now.program.now c.requires.ready.0.valid c.args.x.now.analysis.now.listing
+    c.requires.ready.0.listing c.args.edge c.args.taken c.requires.edge).1
 
 pub test_results-requires-clause-so_far : goal.test_results-requires-clause-so_far
 test_results-requires-clause-so_far c = record {

@@ -12,4 +12,4 @@ pub returns-in-Ok-clause-sound : goal.returns-in-Ok-clause-sound
 returns-in-Ok-clause-sound c =
     let j = case_of c.args.program.now c.args.mode c.args.initial.now c.args.analysis.now
     in let (lines, done, kept) = c.in-Ok.ensures.done
-    in done-sound j lines done c.requires.valid
+    in done-sound j lines done c.requires.case.0

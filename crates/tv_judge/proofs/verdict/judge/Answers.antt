@@ -11,4 +11,4 @@ returns-in-Ok-clause-verdict c =
 pub returns-in-Ok-clause-sound : goal.returns-in-Ok-clause-sound
 returns-in-Ok-clause-sound c =
     let j = case_of c.args.program.now c.args.mode c.args.initial.now c.args.analysis.now
-    in done-sound j c.in-Ok.maps (asked-done j c.in-Ok.maps c.in-Ok.ensures.done) c.requires.valid
+    in done-sound j c.in-Ok.maps (asked-done j c.in-Ok.maps c.in-Ok.ensures.done) c.requires.case.0

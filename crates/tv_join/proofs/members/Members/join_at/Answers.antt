@@ -44,25 +44,17 @@ join_into-requires-clause-flags c =
     = read-at c.self.inside.structures.items c.args.self.now.structures c.args.place c.index.result.now t c.index.ensures same
     c.requires.key.1
     in subst (λ r. length c.args.counted.now ≡ length (arities_of r)) (sym read)
-    (c.requires.flags.count ∙ ap length c.requires.key.2.over)
+    (c.requires.can.0.count ∙ ap length c.requires.key.2.over)
 
-pub join_into-requires-clause-size : goal.join_into-requires-clause-size
-join_into-requires-clause-size c =
+pub join_into-requires-clause-like : goal.join_into-requires-clause-like
+join_into-requires-clause-like c =
     let same : c.self.inside.structures.items ≡ c.args.self.now.structures = ap (λ (m : MembersForm). m.structures) c.self.view_is
     in let t = c.requires.key.0
     in let read : c.index.result.now ≡ t
     = read-at c.self.inside.structures.items c.args.self.now.structures c.args.place c.index.result.now t c.index.ensures same
     c.requires.key.1
-    in (subst (SameKey c.args.counted.now c.args.s) (sym read) c.requires.key.2).size
-
-pub join_into-requires-clause-over : goal.join_into-requires-clause-over
-join_into-requires-clause-over c =
-    let same : c.self.inside.structures.items ≡ c.args.self.now.structures = ap (λ (m : MembersForm). m.structures) c.self.view_is
-    in let t = c.requires.key.0
-    in let read : c.index.result.now ≡ t
-    = read-at c.self.inside.structures.items c.args.self.now.structures c.args.place c.index.result.now t c.index.ensures same
-    c.requires.key.1
-    in (subst (SameKey c.args.counted.now c.args.s) (sym read) c.requires.key.2).over
+    in let key = subst (SameKey c.args.counted.now c.args.s) (sym read) c.requires.key.2
+    in (key.size, key.over)
 
 pub join_into-requires-clause-same : goal.join_into-requires-clause-same
 join_into-requires-clause-same c =
@@ -80,7 +72,7 @@ returns-then-is_same-clause-puts c =
     in let at = c.requires.key.1
     in let joined = c.join_into.new.s
     in let other = c.index-2.result.now
-    in put-known c.args.counted.now c.args.self.now c.requires.indexed c.args.s t c.index.result.now joined other c.args.place at
+    in put-known c.args.counted.now c.args.self.now c.requires.can.2 c.args.s t c.index.result.now joined other c.args.place at
     c.requires.key.2
     (read-at c.self.inside.structures.items c.args.self.now.structures c.args.place c.index.result.now t c.index.ensures same at)
     (read-at c.self.inside.structures.items c.args.self.now.structures c.args.place other t c.index-2.ensures same at)
@@ -95,7 +87,7 @@ returns-clause-puts c =
     in let at = c.requires.key.1
     in let joined = c.join_into.new.s
     in let other = c.index-2.result.now
-    in put-raised c.args.counted.now c.args.self.now c.requires.indexed c.args.s t c.index.result.now joined other c.args.place at
+    in put-raised c.args.counted.now c.args.self.now c.requires.can.2 c.args.s t c.index.result.now joined other c.args.place at
     c.requires.key.2
     (read-at c.self.inside.structures.items c.args.self.now.structures c.args.place c.index.result.now t c.index.ensures same at)
     (read-at c.self.inside.structures.items c.args.self.now.structures c.args.place other t c.index-2.ensures same at)
@@ -111,7 +103,7 @@ returns-clause-indexed c =
     in let at = c.requires.key.1
     in let joined = c.join_into.new.s
     in let other = c.index-2.result.now
-    in put-indexed c.args.counted.now c.args.self.now c.requires.indexed c.args.s t c.index.result.now joined other c.args.place at
+    in put-indexed c.args.counted.now c.args.self.now c.requires.can.2 c.args.s t c.index.result.now joined other c.args.place at
     c.requires.key.2
     (read-at c.self.inside.structures.items c.args.self.now.structures c.args.place c.index.result.now t c.index.ensures same at)
     (read-at c.self.inside.structures.items c.args.self.now.structures c.args.place other t c.index-2.ensures same at)
