@@ -16,8 +16,8 @@ pub returns-clause-read : goal.returns-clause-read
 returns-clause-read g c =
     let gathered = c.in_ok-gathered.ensures in (
       IfErr-weaker c.drawn_in.result _ _
-      (λ fault refused. gathered_refused _ c.args.name.now c.in_ok-gathered.gathered.bytes.items _ _ _ fault gathered.text
-      refused) c.drawn_in.ensures.cause,
+          (λ fault refused. gathered_refused _ c.args.name.now c.in_ok-gathered.gathered.bytes.items _ _ _ fault gathered.text
+          refused) c.drawn_in.ensures.cause,
       begins_anyway c.drawn_in.result _ _ _ _ gathered.begins,
       (gathered.holds, gathered.count, λ s. holds_anyway c.drawn_in.result _ (gathered.steady s)),
     )
