@@ -6,7 +6,7 @@ ghost use Rattle.tv_listing.specs.ListingForm.{at_node};
 ghost use Rattle.tv_model.specs.Program.{program_of};
 ghost use Rattle.tv_model.specs.Valid.{IsValid};
 ghost use Rattle.tv_explain_text.specs.Texts.{CanShow, CanShowNode, structure_line, structure_lines};
-ghost use Rattle.tv_explain_text.specs.Texts.{node_line, node_lines};
+ghost use Rattle.tv_explain_text.specs.Texts.{node_line};
 ghost use Rattle.tv_explain_text.specs.Texts.{nodes_text, shown_text};
 
 use std::alloc::{AllocError, Global};
@@ -60,23 +60,6 @@ pub fn append_node_line(out: &mut Vec<u8>, name: &[u8], count: usize) -> Result<
     out.extend_from_slice(b"\n")
 }
 
-/// Appends the line of a node, and its structures.
-fn append_node(
-    alloc: Global,
-    out: &mut Vec<u8>,
-    vocab: &Vocab,
-    name: &[u8],
-    listing: &Listing,
-    node: u32,
-) -> Result<(), AllocError>
-    requires shows { CanShowNode vocab.now listing.now node }
-    ensures { OnOk result
-        (out.new.items ≡ out.old.items ++ node_lines vocab.now name.now (at_node listing.now node)) }
-{
-    append_node_line(out, name, listing.count(node))?;
-    append_structures(alloc, out, vocab, listing, node)
-}
-
 /// The structures of a listing of the program, each in one line, as `append_line` of `tv_show` writes them,
 /// behind its place among those of its node, from 0 on. The nodes come by number, each with a line before its
 /// structures: `node L1 structures 2`.
@@ -95,15 +78,10 @@ pub fn shown_text(
     let mut out = Vec::new(alloc);
     let names = program.nodes.as_slice();
     for number in 0..names.len() {
+        let node = number as u32;
         let name = names[number].as_slice();
-        append_node(
-            alloc,
-            &mut out,
-            &program.vocab,
-            name,
-            listing,
-            number as u32,
-        )?;
+        append_node_line(&mut out, name, listing.count(node))?;
+        append_structures(alloc, &mut out, &program.vocab, listing, node)?;
     }
     Ok(out)
 }
