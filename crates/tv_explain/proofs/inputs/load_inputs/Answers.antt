@@ -1,4 +1,4 @@
-use Rattle.std.proofs.Common.{◌≡◌, ◌+◌, List, Result, Err, subst, refl}
+use Rattle.std.proofs.Common.{◌+◌, List, Result, Err, subst, refl}
 use Rattle.std.proofs.lemmas.Result.{err_from_is_err_and}
 use Rattle.tv_outside.specs.Count.{Rose}
 use Rattle.tv_status.specs.declared.status.Role.TheVariants as role
