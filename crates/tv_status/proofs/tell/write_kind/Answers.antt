@@ -10,11 +10,13 @@ returns g c =
     ≡ c.name.result.now ++ (codes ": " ++ (c.name-2.result.now ++ (codes ": "
     ++ (c.name-3.result.now ++ (c.hint.result.now ++ 10 ∷ [])))))
     = search rules in
-    rw text (
-      c.write_parts.ensures.all,
-      c.write_parts.ensures.front,
-      c.write_parts.ensures.failed,
-      c.write_parts.ensures.no_failure,
-      c.write_parts.ensures.failed_last,
-      c.write_parts.ensures.count,
-    )
+    rw text (record {
+      told = (
+        c.write_parts.ensures.all,
+        c.write_parts.ensures.front,
+        c.write_parts.ensures.failed,
+        c.write_parts.ensures.no_failure,
+        c.write_parts.ensures.failed_last,
+        c.write_parts.ensures.count,
+      );
+    })

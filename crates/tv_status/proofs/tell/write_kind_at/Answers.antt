@@ -21,11 +21,13 @@ returns g c =
     let column : c.as_bytes-2.result.now ≡ decimal c.args.place.column = cc in
     let hint : c.hint.result.now ≡ hint_of c.args.teller = c.hint.ensures in
     rw (← teller) (rw (← role) (rw (← kind) (rw (← line) (rw (← column) (rw (← hint)
-    (rw (parts _ _ _ _ _ _) (
-      c.write_parts.ensures.all,
-      c.write_parts.ensures.front,
-      c.write_parts.ensures.failed,
-      c.write_parts.ensures.no_failure,
-      c.write_parts.ensures.failed_last,
-      c.write_parts.ensures.count,
-    )))))))
+    (rw (parts _ _ _ _ _ _) (record {
+      told = (
+        c.write_parts.ensures.all,
+        c.write_parts.ensures.front,
+        c.write_parts.ensures.failed,
+        c.write_parts.ensures.no_failure,
+        c.write_parts.ensures.failed_last,
+        c.write_parts.ensures.count,
+      );
+    })))))))

@@ -3,4 +3,4 @@ use Rattle.tv_status.proofs.tell.write_status.Goals as goal
 
 pub returns : goal.returns
 unfolding usage_text
-returns g c = c.write_told.ensures.told
+returns g c = record { told = c.write_told.ensures.told }

@@ -10,11 +10,13 @@ returns g c =
     let text : too_many_text c.args.teller c.args.max
     ≡ c.name.result.now ++ (codes ": more than " ++ (c.as_bytes.result.now ++ (codes " structures" ++ 10 ∷ [])))
     = search rules in
-    rw text (
-      c.write_parts.ensures.all,
-      c.write_parts.ensures.front,
-      c.write_parts.ensures.failed,
-      c.write_parts.ensures.no_failure,
-      c.write_parts.ensures.failed_last,
-      c.write_parts.ensures.count,
-    )
+    rw text (record {
+      told = (
+        c.write_parts.ensures.all,
+        c.write_parts.ensures.front,
+        c.write_parts.ensures.failed,
+        c.write_parts.ensures.no_failure,
+        c.write_parts.ensures.failed_last,
+        c.write_parts.ensures.count,
+      );
+    })

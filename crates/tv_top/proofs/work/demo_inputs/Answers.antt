@@ -37,4 +37,4 @@ program_in-requires c =
 pub initial_in-requires : goal.initial_in-requires
 initial_in-requires c =
     let lists : c.deref-2.result.now ≡ lists_text = c.deref-2.ensures.value ∙ c.in_ok-texts.ensures.initial in
-    (c.in_ok-program.ensures.valid, rw lists lists_short)
+    record { text = (c.in_ok-program.ensures.valid, rw lists lists_short) }
