@@ -10,6 +10,7 @@ mod Ended
 mod Endings
 mod Fewer
 mod Gives
+mod Handled
 mod LastRounds
 mod Later
 mod Limits

@@ -1,6 +1,7 @@
 -- What the two sinks take in a call.
-use Rattle.std.specs.Prelude.{◌≡◌, ℕ, ◌⊎◌, List, Option, Result, Ok, Err}
+use Rattle.std.specs.Prelude.{◌≡◌, ℕ, ◌≤◌, ◌⊎◌, List, Option, Result, Ok, Err}
 use Rattle.tv_outside.specs.Told.{appended, TookFront}
+use Rattle.tv_status.specs.Delivery.{StopsAtFailure}
 use Rattle.tv_status.specs.Status.{text_of}
 use Rattle.tv_status.specs.declared.status.Status.{Status}
 use Rattle.tv_status.specs.declared.status.Status.TheVariants.{Done, Rejected, Stuck, Usage, FileFault}
@@ -101,3 +102,8 @@ GivesText text due ends out_rose err_rose out_old out_new err_old err_new =
     ⊎ ((ends ≡ WriteFault) × out_rose × TookFront out_old out_new text
     × ((err_new ≡ appended err_old (text_of WriteFault)) ⊎ (err_rose
     × TookFront err_old err_new (text_of WriteFault))))
+
+-- how a call leaves a sink: it has stopped at a failure, and no count of its faults falls
+abbrev pub LeavesSink : {S : Type 0} → (faults failures since : S → ℕ) → (old new : S) → Type 0
+LeavesSink faults failures since old new =
+    StopsAtFailure (failures old) (failures new) (since new) × (faults old ≤ faults new)

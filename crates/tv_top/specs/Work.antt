@@ -4,6 +4,7 @@ use Rattle.std.specs.Prelude.{All}
 use Rattle.tv_delta.specs.Answers.{HasRuns}
 use Rattle.tv_delta_laws.specs.Differences.{IsDifferenced}
 use Rattle.tv_judge.specs.Judged.{IsRejection, StopsAt}
+use Rattle.tv_listing.specs.Listed.{IsListing}
 use Rattle.tv_listing.specs.declared.analysis.Analysis.{Analysis}
 use Rattle.tv_model.specs.Program.{program_of}
 use Rattle.tv_model.specs.Valid.{IsValid}
@@ -99,6 +100,14 @@ pub record AreReadyInputs (inputs : Inputs) : Type 0 where
   pub kept : All IsStructure inputs.initial
   pub few : length inputs.initial < 2 ^ 32
 
+-- and it may list so many structures
+abbrev pub CanSearch : Inputs → (max : ℕ) → Type 0
+CanSearch inputs max = AreReadyInputs inputs × (max ≤ 100000)
+
+-- and this is a report on it
+abbrev pub CanBeJudged : Inputs → Analysis → Type 0
+CanBeJudged inputs report = AreReadyInputs inputs × IsListing inputs.program report.listing
+
 -- why an analysis finds nothing
 abbrev pub IsSearchCause : Task → (max : ℕ) → Fault → Type 0
 IsSearchCause task max (fault.Structures more) = (more ≡ max) × AreMoreThan max (Reached task)
@@ -148,3 +157,10 @@ abbrev pub UnlessReadFault : {T : Type 0} → Result T Fault → Type 0 → Type
 UnlessReadFault (Ok found) P = P
 UnlessReadFault (Err fault.ReadFault) P = Unit {0}
 UnlessReadFault (Err other) P = P
+
+-- How a call leaves the files that it reads: no name holds anything else, no count of faults falls, and steady
+-- files stay steady without a fault, wherever `Unless` asks for that.
+abbrev pub Handles : {F : Type 0} → (holds : F → Option Held) → (faults : F → ℕ) → (steady : F → Type 0)
+    → (Unless : Type 0 → Type 0) → (old new : F) → Type 0
+Handles holds faults steady Unless old new = (holds new ≡ holds old) × (faults old ≤ faults new)
+    × (steady old → Unless (steady new × (faults new ≡ faults old)))

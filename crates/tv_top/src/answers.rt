@@ -14,7 +14,8 @@ ghost use Rattle.tv_top.specs.Delivery.{SaidOf};
 ghost use Rattle.tv_top.specs.declared.fault.Fault.TheVariants.{Memory};
 ghost use Rattle.tv_trace.specs.Meaning.{IsTraceOn};
 ghost use Rattle.tv_two_valued.specs.TwoValued.{IsTwoValued};
-ghost use Rattle.tv_top.specs.Work.{AreReadyInputs, IsReplayAnswer, IsSearchCause, IsJoinSearchCause};
+ghost use Rattle.tv_top.specs.Work.{CanBeJudged, CanSearch, IsReplayAnswer, IsSearchCause};
+ghost use Rattle.tv_top.specs.Work.{IsJoinSearchCause};
 ghost use Rattle.tv_top.specs.Work.{IsJudged, IsJudgementCause, task_of};
 
 use crate::fault::{Answer, Fault, fault_of_work};
@@ -34,8 +35,7 @@ use tv_work::analyze;
 
 /// What is reached from the inputs, at most `max` structures.
 pub fn search(alloc: Global, inputs: &Inputs, mode: Mode, max: u64) -> Result<Analysis, Fault>
-    requires ready { AreReadyInputs inputs.now }
-    requires bounded { max ≤ 100000 }
+    requires can { CanSearch inputs.now max }
     ensures found { IfOk result (IsFound (task_of inputs.now mode) max) }
     ensures listing { IfOk result (λ a. IsListing inputs.now.program a.listing) }
     ensures cause { IfErr result (IsSearchCause (task_of inputs.now mode) max) }
@@ -53,8 +53,7 @@ pub fn search_joined(
     mode: Mode,
     max: u64,
 ) -> Result<Analysis, Fault>
-    requires ready { AreReadyInputs inputs.now }
-    requires bounded { max ≤ 100000 }
+    requires can { CanSearch inputs.now max }
     ensures found { IfOk result (IsJoinFound (task_of inputs.now mode) max) }
     ensures cause { IfErr result (IsJoinSearchCause (task_of inputs.now mode) max) }
 {
@@ -163,8 +162,7 @@ fn judgement_with_maps(
     report: Analysis,
     mode: Mode,
 ) -> Result<Answer, Fault>
-    requires ready { AreReadyInputs inputs.now }
-    requires listing { IsListing inputs.now.program report.listing }
+    requires can { CanBeJudged inputs.now report }
     ensures judged { IfOk result (SaidOf (IsJudged (task_of inputs.now mode) report true)) }
     ensures cause { IfErr result (IsJudgementCause (task_of inputs.now mode) report) }
 {
@@ -187,8 +185,7 @@ fn judgement_alone(
     report: &Analysis,
     mode: Mode,
 ) -> Result<Answer, Fault>
-    requires ready { AreReadyInputs inputs.now }
-    requires listing { IsListing inputs.now.program report.now.listing }
+    requires can { CanBeJudged inputs.now report.now }
     ensures judged { IfOk result (SaidOf (IsJudged (task_of inputs.now mode) report.now false)) }
     ensures cause { IfErr result (IsJudgementCause (task_of inputs.now mode) report.now) }
 {
@@ -212,8 +209,7 @@ pub fn judgement(
     mode: Mode,
     maps: bool,
 ) -> Result<Answer, Fault>
-    requires ready { AreReadyInputs inputs.now }
-    requires listing { IsListing inputs.now.program report.listing }
+    requires can { CanBeJudged inputs.now report }
     ensures judged { IfOk result (SaidOf (IsJudged (task_of inputs.now mode) report maps)) }
     ensures cause { IfErr result (IsJudgementCause (task_of inputs.now mode) report) }
 {
@@ -232,12 +228,11 @@ pub fn replayed(
     trace: &Trace,
     report: &Analysis,
 ) -> Result<Answer, Fault>
-    requires ready { AreReadyInputs inputs.now }
+    requires can { CanBeJudged inputs.now report.now }
     requires over { IsOver inputs.now.program.vocab start.now }
     requires unmarked { start.now.fresh ≡ None }
     requires two_valued { IsTwoValued start.now }
     requires trace { IsTraceOn inputs.now.program trace.now }
-    requires listing { IsListing inputs.now.program report.now.listing }
     ensures run { IfOk result
         (SaidOf (IsReplayAnswer (task_of inputs.now Given) start.now trace.now report.now)) }
     ensures cause { IfErr result (λ fault. fault ≡ Memory) }

@@ -1,10 +1,9 @@
 //! The end of a call: its text goes out, or why there is none.
 
-ghost use Rattle.std.specs.Prelude.{◌≡◌, ◌⊎◌, ◌≤◌};
 ghost use Rattle.tv_outside.specs.Count.{Rose};
 ghost use Rattle.tv_status.specs.Status.{text_of};
-ghost use Rattle.tv_status.specs.Delivery.{StopsAtFailure};
 ghost use Rattle.tv_top.specs.Delivery.{OutTook, ErrTook, IsText, IsFault, EndsAs, Takes, GivesText};
+ghost use Rattle.tv_top.specs.Delivery.{LeavesSink};
 
 use crate::fault::{Answer, Fault};
 use tv_outside::{Sink, write_all};
@@ -14,8 +13,7 @@ use tv_status::{Status, write_status};
 fn tell<E: Sink>(err: &mut E, status: Status) -> Status
     ensures tells { Takes (text_of status) status result (Rose (E.faults err.old) (E.faults err.new))
         (E.taken err.old) (E.taken err.new) }
-    ensures stops { StopsAtFailure (E.failures err.old) (E.failures err.new) (E.since err.new) }
-    ensures count { E.faults err.old ≤ E.faults err.new }
+    ensures left { LeavesSink E.faults E.failures E.since err.old err.new }
 {
     match write_status(err, status) {
         Ok(()) => status,
@@ -29,10 +27,8 @@ fn give<O: Sink, E: Sink>(text: &[u8], status: Status, out: &mut O, err: &mut E)
     ensures gives { GivesText text.now status result (Rose (O.faults out.old) (O.faults out.new)) (Rose
         (E.faults err.old) (E.faults err.new)) (O.taken out.old) (O.taken out.new) (E.taken err.old)
         (E.taken err.new) }
-    ensures out_stops { StopsAtFailure (O.failures out.old) (O.failures out.new) (O.since out.new) }
-    ensures err_stops { StopsAtFailure (E.failures err.old) (E.failures err.new) (E.since err.new) }
-    ensures out_count { O.faults out.old ≤ O.faults out.new }
-    ensures err_count { E.faults err.old ≤ E.faults err.new }
+    ensures out_left { LeavesSink O.faults O.failures O.since out.old out.new }
+    ensures err_left { LeavesSink E.faults E.failures E.since err.old err.new }
 {
     match write_all(out, text) {
         Ok(()) => status,
@@ -47,10 +43,8 @@ pub fn deliver<O: Sink, E: Sink>(found: Result<Answer, Fault>, out: &mut O, err:
         (E.faults err.old) (E.faults err.new)) (O.taken out.old) (O.taken out.new) }
     ensures err { ErrTook result (IsFault found) (Rose (O.faults out.old) (O.faults out.new)) (Rose
         (E.faults err.old) (E.faults err.new)) (E.taken err.old) (E.taken err.new) }
-    ensures out_stops { StopsAtFailure (O.failures out.old) (O.failures out.new) (O.since out.new) }
-    ensures err_stops { StopsAtFailure (E.failures err.old) (E.failures err.new) (E.since err.new) }
-    ensures out_count { O.faults out.old ≤ O.faults out.new }
-    ensures err_count { E.faults err.old ≤ E.faults err.new }
+    ensures out_left { LeavesSink O.faults O.failures O.since out.old out.new }
+    ensures err_left { LeavesSink E.faults E.failures E.since err.old err.new }
 {
     match found {
         Ok(Answer::Done(text)) => give(&text, Status::Done, out, err),

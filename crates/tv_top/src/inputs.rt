@@ -1,6 +1,6 @@
 //! The files of a command, read and understood.
 
-ghost use Rattle.std.specs.Prelude.{◌≡◌, ◌≤◌, ◌+◌, Ok, Err, IfOk, IfErr, OnOk};
+ghost use Rattle.std.specs.Prelude.{◌≡◌, ◌+◌, Ok, Err, IfOk, IfErr, OnOk};
 ghost use Rattle.tv_model.specs.Program.{program_of};
 ghost use Rattle.tv_model.specs.Valid.{IsValid};
 ghost use Rattle.tv_outside.specs.Count.{Rose};
@@ -11,7 +11,7 @@ ghost use Rattle.tv_top.specs.Begins.{BeginsMet, origin_begins};
 ghost use Rattle.tv_top.specs.Call.{IsCommandCause};
 ghost use Rattle.tv_top.specs.Meaning.{FilesMean, IsTakenProgram, mode_of};
 ghost use Rattle.tv_top.specs.Work.{Comes, HasReadRuns, HasRunsOf, AreReadyInputs, IsTakenFrom, Lacks, Names};
-ghost use Rattle.tv_top.specs.Work.{UnlessReadFault, role_of, task_of};
+ghost use Rattle.tv_top.specs.Work.{Handles, UnlessReadFault, role_of, task_of};
 ghost use Rattle.tv_texts.specs.declared.fault.TextFault.TheVariants.{Memory};
 ghost use Rattle.tv_words.specs.Words.{CommandForm};
 
@@ -68,12 +68,9 @@ fn load_taken<F: Files>(
     ensures cause { IfErr result (IsFileCause role.Program (λ kind. IsTakenProgram delta (F.holds files.old)
         name.now (Err kind)) (LacksFile (F.holds files.old) name.now)
         (Rose (F.faults files.old) (F.faults files.new)) (F.steady files.old)) }
-    ensures holds { F.holds files.new ≡ F.holds files.old }
     ensures begins { BeginsUpTo result (F.holds files.old) (λ held. program_begins held name.now)
         (F.begins files.old) (F.begins files.new) }
-    ensures count { F.faults files.old ≤ F.faults files.new }
-    ensures steady { F.steady files.old → UnlessNotRead result (F.steady files.new
-        × (F.faults files.new ≡ F.faults files.old)) }
+    ensures handled { Handles F.holds F.faults F.steady (UnlessNotRead result) files.old files.new }
 {
     let read = load_program(alloc, files, name)?;
     taken(alloc, read, delta)
@@ -91,12 +88,9 @@ fn load_origin<F: Files>(
     ensures cause { IfErr result (IsFileCause (role_of origin.entry)
         (λ kind. Comes origin.entry (F.holds files.old) (Err kind)) (Lacks origin.entry (F.holds files.old))
         (Rose (F.faults files.old) (F.faults files.new)) (F.steady files.old)) }
-    ensures holds { F.holds files.new ≡ F.holds files.old }
     ensures begins { BeginsUpTo result (F.holds files.old) (λ held. origin_begins held origin.entry)
         (F.begins files.old) (F.begins files.new) }
-    ensures count { F.faults files.old ≤ F.faults files.new }
-    ensures steady { F.steady files.old → UnlessNotRead result (F.steady files.new
-        × (F.faults files.new ≡ F.faults files.old)) }
+    ensures handled { Handles F.holds F.faults F.steady (UnlessNotRead result) files.old files.new }
 {
     match origin {
         Origin::Program { name, delta } => load_taken(alloc, files, name, delta),
@@ -118,14 +112,11 @@ pub fn load_inputs<F: Files>(
     ensures cause { IfErr result (λ fault. (command : CommandForm) → Names command origin.entry initial.now
         → IsCommandCause (F.holds files.old) command (Rose (F.faults files.old) (F.faults files.new))
         (F.steady files.old) fault) }
-    ensures holds { F.holds files.new ≡ F.holds files.old }
     ensures begins { OnOk result (BeginsBy (F.holds files.old) (λ held. origin_begins held origin.entry + 1)
         (F.begins files.old) (F.begins files.new)) }
     ensures begun { IfErr result (λ fault. (command : CommandForm) → Names command origin.entry initial.now
         → BeginsMet (F.holds files.old) (F.begins files.old) (F.begins files.new) command fault) }
-    ensures count { F.faults files.old ≤ F.faults files.new }
-    ensures steady { F.steady files.old → UnlessReadFault result (F.steady files.new
-        × (F.faults files.new ≡ F.faults files.old)) }
+    ensures handled { Handles F.holds F.faults F.steady (UnlessReadFault result) files.old files.new }
 {
     let program = load_origin(alloc, files, origin)?;
     let initial = load_initial(alloc, files, initial, &program)?;

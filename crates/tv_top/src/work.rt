@@ -8,7 +8,7 @@ ghost use Rattle.tv_top.specs.Call.{IsAnswerTo, IsCause, IsCommandCause};
 ghost use Rattle.tv_top.specs.Delivery.{SaidOf, status_of};
 ghost use Rattle.tv_top.specs.Begins.{BeginsDuly, BeginsFor, BeginsMet, BeginsWithin};
 ghost use Rattle.tv_top.specs.Meaning.{Commands, FilesMean};
-ghost use Rattle.tv_top.specs.Work.{IsBounded, AreReadyInputs, UnlessReadFault, task_of};
+ghost use Rattle.tv_top.specs.Work.{Handles, IsBounded, AreReadyInputs, UnlessReadFault, task_of};
 ghost use Rattle.tv_words.specs.Words.{words_of, SpellsNothing, Analyzes, Checks, Demos, Joins, Replays};
 ghost use Rattle.tv_words.specs.Words.{Sources, GoTogether, form_of};
 
@@ -46,14 +46,11 @@ fn analyze<F: Files>(
     ensures cause { IfErr result (IsCommandCause (F.holds files.old)
         (Analyzes program.now initial.now max mode delta)
         (Rose (F.faults files.old) (F.faults files.new)) (F.steady files.old)) }
-    ensures holds { F.holds files.new ≡ F.holds files.old }
     ensures begins { OnOk result (BeginsFor (F.holds files.old) (F.begins files.old) (F.begins files.new)
         (Analyzes program.now initial.now max mode delta)) }
     ensures begun { IfErr result (BeginsMet (F.holds files.old) (F.begins files.old) (F.begins files.new)
         (Analyzes program.now initial.now max mode delta)) }
-    ensures count { F.faults files.old ≤ F.faults files.new }
-    ensures steady { F.steady files.old → UnlessReadFault result (F.steady files.new
-        × (F.faults files.new ≡ F.faults files.old)) }
+    ensures handled { Handles F.holds F.faults F.steady (UnlessReadFault result) files.old files.new }
 {
     let origin = Origin::Program {
         name: program,
@@ -83,14 +80,11 @@ fn check<F: Files>(
     ensures cause { IfErr result (IsCommandCause (F.holds files.old)
         (Checks program.now initial.now report.now mode maps delta)
         (Rose (F.faults files.old) (F.faults files.new)) (F.steady files.old)) }
-    ensures holds { F.holds files.new ≡ F.holds files.old }
     ensures begins { OnOk result (BeginsFor (F.holds files.old) (F.begins files.old) (F.begins files.new)
         (Checks program.now initial.now report.now mode maps delta)) }
     ensures begun { IfErr result (BeginsMet (F.holds files.old) (F.begins files.old) (F.begins files.new)
         (Checks program.now initial.now report.now mode maps delta)) }
-    ensures count { F.faults files.old ≤ F.faults files.new }
-    ensures steady { F.steady files.old → UnlessReadFault result (F.steady files.new
-        × (F.faults files.new ≡ F.faults files.old)) }
+    ensures handled { Handles F.holds F.faults F.steady (UnlessReadFault result) files.old files.new }
 {
     let origin = Origin::Program {
         name: program,
@@ -146,14 +140,11 @@ fn join<F: Files>(
     ensures cause { IfErr result (IsCommandCause (F.holds files.old)
         (Joins program.now initial.now max mode)
         (Rose (F.faults files.old) (F.faults files.new)) (F.steady files.old)) }
-    ensures holds { F.holds files.new ≡ F.holds files.old }
     ensures begins { OnOk result (BeginsFor (F.holds files.old) (F.begins files.old) (F.begins files.new)
         (Joins program.now initial.now max mode)) }
     ensures begun { IfErr result (BeginsMet (F.holds files.old) (F.begins files.old) (F.begins files.new)
         (Joins program.now initial.now max mode)) }
-    ensures count { F.faults files.old ≤ F.faults files.new }
-    ensures steady { F.steady files.old → UnlessReadFault result (F.steady files.new
-        × (F.faults files.new ≡ F.faults files.old)) }
+    ensures handled { Handles F.holds F.faults F.steady (UnlessReadFault result) files.old files.new }
 {
     let origin = Origin::Program {
         name: program,
@@ -182,14 +173,11 @@ fn run<F: Files>(
     ensures cause { IfErr result (IsCommandCause (F.holds files.old)
         (Replays program.now initial.now start.now trace.now report.now)
         (Rose (F.faults files.old) (F.faults files.new)) (F.steady files.old)) }
-    ensures holds { F.holds files.new ≡ F.holds files.old }
     ensures begins { OnOk result (BeginsFor (F.holds files.old) (F.begins files.old) (F.begins files.new)
         (Replays program.now initial.now start.now trace.now report.now)) }
     ensures begun { IfErr result (BeginsMet (F.holds files.old) (F.begins files.old) (F.begins files.new)
         (Replays program.now initial.now start.now trace.now report.now)) }
-    ensures count { F.faults files.old ≤ F.faults files.new }
-    ensures steady { F.steady files.old → UnlessReadFault result (F.steady files.new
-        × (F.faults files.new ≡ F.faults files.old)) }
+    ensures handled { Handles F.holds F.faults F.steady (UnlessReadFault result) files.old files.new }
 {
     let origin = Origin::Program {
         name: program,
@@ -217,14 +205,11 @@ fn source<F: Files>(
     ensures cause { IfErr result (IsCommandCause (F.holds files.old)
         (Sources source.now initial.now max)
         (Rose (F.faults files.old) (F.faults files.new)) (F.steady files.old)) }
-    ensures holds { F.holds files.new ≡ F.holds files.old }
     ensures begins { OnOk result (BeginsFor (F.holds files.old) (F.begins files.old) (F.begins files.new)
         (Sources source.now initial.now max)) }
     ensures begun { IfErr result (BeginsMet (F.holds files.old) (F.begins files.old) (F.begins files.new)
         (Sources source.now initial.now max)) }
-    ensures count { F.faults files.old ≤ F.faults files.new }
-    ensures steady { F.steady files.old → UnlessReadFault result (F.steady files.new
-        × (F.faults files.new ≡ F.faults files.old)) }
+    ensures handled { Handles F.holds F.faults F.steady (UnlessReadFault result) files.old files.new }
 {
     covered_runs_cover_sources();
     let inputs = load_inputs(alloc, files, Origin::Source(source), initial)?;
@@ -240,14 +225,11 @@ fn execute<F: Files>(alloc: Global, files: &mut F, command: &Command) -> Result<
     ensures found { IfOk result (SaidOf (IsAnswer (F.holds files.old) (form_of command.now))) }
     ensures cause { IfErr result (IsCommandCause (F.holds files.old) (form_of command.now)
         (Rose (F.faults files.old) (F.faults files.new)) (F.steady files.old)) }
-    ensures holds { F.holds files.new ≡ F.holds files.old }
     ensures begins { OnOk result (BeginsFor (F.holds files.old) (F.begins files.old) (F.begins files.new)
         (form_of command.now)) }
     ensures begun { IfErr result (BeginsMet (F.holds files.old) (F.begins files.old) (F.begins files.new)
         (form_of command.now)) }
-    ensures count { F.faults files.old ≤ F.faults files.new }
-    ensures steady { F.steady files.old → UnlessReadFault result (F.steady files.new
-        × (F.faults files.new ≡ F.faults files.old)) }
+    ensures handled { Handles F.holds F.faults F.steady (UnlessReadFault result) files.old files.new }
 {
     match command {
         Command::Analyze {
@@ -294,16 +276,13 @@ pub fn perform<F: Files>(alloc: Global, words: &[String], files: &mut F) -> Resu
     ensures cause { IfErr result (IsCause (words_of words.now) (F.holds files.old)
         (Rose (F.faults files.old) (F.faults files.new)) (F.steady files.old)) }
     ensures unread { SpellsNothing (words_of words.now) → files.new ≡ files.old }
-    ensures holds { F.holds files.new ≡ F.holds files.old }
     ensures begins { OnOk result (Commands (words_of words.now)
         (BeginsFor (F.holds files.old) (F.begins files.old) (F.begins files.new))) }
     ensures begun { IfErr result (λ fault. BeginsDuly (words_of words.now) (F.holds files.old)
         (F.begins files.old) (F.begins files.new) (status_of fault)) }
     ensures most { BeginsWithin (words_of words.now) (F.holds files.old) (F.begins files.old)
         (F.begins files.new) }
-    ensures count { F.faults files.old ≤ F.faults files.new }
-    ensures steady { F.steady files.old → UnlessReadFault result (F.steady files.new
-        × (F.faults files.new ≡ F.faults files.old)) }
+    ensures handled { Handles F.holds F.faults F.steady (UnlessReadFault result) files.old files.new }
 {
     commands_are_bounded();
     one_command();

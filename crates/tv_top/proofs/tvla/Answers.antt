@@ -22,7 +22,7 @@ returns-clause-held g c =
     (none_missing c.runs_have_one_ending.ensures c.one_command.ensures (one_program each.program each.source each.initial each.report)
     (one_initial each.program each.source each.initial each.report) (one_report each.program each.source each.initial each.report)
     (one_start each.start each.trace) (one_trace each.start each.trace) _ _ holds) steady
-    c.perform-found.ensures.cause (c.perform-found.ensures.steady steady)
+    c.perform-found.ensures.cause (c.perform-found.ensures.handled.2 steady)
 
 pub returns-clause-begins : goal.returns-clause-begins
 returns-clause-begins g c =
@@ -33,7 +33,7 @@ returns-clause-most g c = c.perform-found.ensures.most
 
 pub returns-clause-stays : goal.returns-clause-stays
 returns-clause-stays g c = λ steady.
-    stays_steady _ _ _ _ c.deliver.ensures.ends (c.perform-found.ensures.steady steady)
+    stays_steady _ _ _ _ c.deliver.ensures.ends (c.perform-found.ensures.handled.2 steady)
 
 pub returns-clause-exact : goal.returns-clause-exact
 returns-clause-exact g c =

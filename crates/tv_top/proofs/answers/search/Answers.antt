@@ -6,13 +6,13 @@ use Rattle.tv_top.proofs.answers.search.Goals as goal
 pub returns-in-Ok-clause-listing : goal.returns-in-Ok-clause-listing
 returns-in-Ok-clause-listing c = record {
   nodes = c.in-Ok.ensures.exact.nodes;
-  counts = each_few c.in-Ok.found.listing c.args.max c.in-Ok.ensures.exact.within c.requires.bounded;
+  counts = each_few c.in-Ok.found.listing c.args.max c.in-Ok.ensures.exact.within c.requires.can.1;
   structures = c.in-Ok.ensures.over;
 }
 
 pub returns-in-Ok-clause-found : goal.returns-in-Ok-clause-found
 returns-in-Ok-clause-found c = record {
-  valid = c.requires.ready.valid;
+  valid = c.requires.can.0.valid;
   listing = returns-in-Ok-clause-listing c;
   exact = c.in-Ok.ensures.exact;
   no_maps = c.in-Ok.ensures.maps;

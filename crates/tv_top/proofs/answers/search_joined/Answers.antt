@@ -5,10 +5,10 @@ use Rattle.tv_top.proofs.answers.search_joined.Goals as goal
 
 pub returns-in-Ok-clause-found : goal.returns-in-Ok-clause-found
 returns-in-Ok-clause-found c = record {
-  valid = c.requires.ready.valid;
+  valid = c.requires.can.0.valid;
   listing = record {
     nodes = c.in-Ok.ensures.exact.nodes;
-    counts = each_few c.in-Ok.found.listing c.args.max c.in-Ok.ensures.exact.within c.requires.bounded;
+    counts = each_few c.in-Ok.found.listing c.args.max c.in-Ok.ensures.exact.within c.requires.can.1;
     structures = c.in-Ok.ensures.over;
   };
   exact = c.in-Ok.ensures.exact;

@@ -16,8 +16,10 @@ returns-clause-runs g c = IfOk-weaker c.taken.result _ _
 pub returns-clause-cause : goal.returns-clause-cause
 returns-clause-cause g c = memory_fault c.taken.result _ _ _ _ _ c.taken.ensures.cause
 
-pub returns-clause-steady : goal.returns-clause-steady
-returns-clause-steady g c = λ s. holds_anyway c.taken.result _ (c.in_ok-read.ensures.steady s)
+pub returns-clause-handled : goal.returns-clause-handled
+returns-clause-handled g c =
+    let read = c.in_ok-read.ensures in
+    (read.holds, read.count, λ s. holds_anyway c.taken.result _ (read.steady s))
 
 pub returns-clause-begins : goal.returns-clause-begins
 returns-clause-begins g c = begins_anyway c.taken.result _ _ _ _ c.in_ok-read.ensures.begins

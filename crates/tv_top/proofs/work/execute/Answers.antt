@@ -1,4 +1,4 @@
-use Rattle.std.proofs.Common.{refl}
+use Rattle.std.proofs.Common.{arith, refl}
 use Rattle.tv_lemmas.proofs.Options.{OnOk-any}
 use Rattle.tv_lex.proofs.Begins.{never_begun}
 use Rattle.tv_top.proofs.Begins.{demo_begun}
@@ -20,8 +20,8 @@ pub returns-in-Demo-clause-cause : goal.returns-in-Demo-clause-cause
 returns-in-Demo-clause-cause g c =
     rw c.in-Demo.is (demo_causes _ c.in-Demo.number _ _ c.demo.result (c.demo.ensures.cause (g.F.Files.holds c.args.files.now)))
 
-pub returns-in-Demo-clause-steady : goal.returns-in-Demo-clause-steady
-returns-in-Demo-clause-steady g c = λ steady. holds_unless c.demo.result _ (steady, refl)
+pub returns-in-Demo-clause-handled : goal.returns-in-Demo-clause-handled
+returns-in-Demo-clause-handled g c = (refl, omega arith, λ steady. holds_unless c.demo.result _ (steady, refl))
 
 pub returns-in-Join-clause-cause : goal.returns-in-Join-clause-cause
 returns-in-Join-clause-cause g c =
