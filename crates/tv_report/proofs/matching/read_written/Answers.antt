@@ -11,7 +11,9 @@ use Rattle.tv_report.proofs.Fronts.{is_listing, is_report}
 use Rattle.tv_report.proofs.matching.read_written.Goals as goal
 
 pub take_listing-requires : goal.take_listing-requires
-take_listing-requires c = ((valid_fits c.args.program.now c.requires.valid).vocabulary, c.requires.valid.node_count)
+take_listing-requires c = record {
+  program = ((valid_fits c.args.program.now c.requires.valid).vocabulary, c.requires.valid.node_count);
+}
 
 pub behind_nodes-requires-clause-program : goal.behind_nodes-requires-clause-program
 behind_nodes-requires-clause-program c =
