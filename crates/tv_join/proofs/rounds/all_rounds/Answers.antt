@@ -28,16 +28,18 @@ loop-stepper-smaller c =
     c.loop-stepper-test.true c.has_changed.ensures)
 
 pub tell_all-requires : goal.tell_all-requires
-tell_all-requires c = (
-  c.requires.ready.0.valid,
-  c.loop-stepper.invariant.at.at.kept,
-  c.loop-stepper.invariant.edges,
-  none-changed (task_of c.args.x.now.task) c.loop-stepper.joins
-      (IsAbsorbed (program_of c.args.x.now.task.program.now) c.loop-stepper.joins.nodes) c.loop-stepper.values
-      c.loop-stepper.invariant.at.followed
-      (subst (λ b. MatchBool b (c.loop-stepper.joins.changed ≢ []) (c.loop-stepper.joins.changed ≡ []))
-      c.loop-stepper-test.false c.has_changed.ensures),
-)
+tell_all-requires c = record {
+  followed = (
+    c.requires.ready.0.valid,
+    c.loop-stepper.invariant.at.at.kept,
+    c.loop-stepper.invariant.edges,
+    none-changed (task_of c.args.x.now.task) c.loop-stepper.joins
+        (IsAbsorbed (program_of c.args.x.now.task.program.now) c.loop-stepper.joins.nodes) c.loop-stepper.values
+        c.loop-stepper.invariant.at.followed
+        (subst (λ b. MatchBool b (c.loop-stepper.joins.changed ≢ []) (c.loop-stepper.joins.changed ≡ []))
+        c.loop-stepper-test.false c.has_changed.ensures),
+  );
+}
 
 pub returns-clause-last : goal.returns-clause-last
 returns-clause-last c =
